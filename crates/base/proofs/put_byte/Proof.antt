@@ -1,0 +1,30 @@
+-- `base::put_byte` meets its contract.
+use borrow.Author.Needs.{needs}
+use Rattle.base.proofs.Put.{put-one, put-full}
+use Rattle.base.proofs.put_byte.Statement.{statement}
+use Rattle.base.proofs.put_byte.Tie as tie
+use Rattle.base.proofs.put_byte.Reads as reads
+use Rattle.base.proofs.put_byte.Lts as lts
+
+-- src/lib.rt:19:9
+slice-write-buf : tie.Need-slice-write-buf
+slice-write-buf c = search needs
+
+-- src/lib.rt:20:9
+add-result : tie.Need-add-result
+add-result c = search needs
+
+-- src/lib.rt:15:1
+same-length : tie.Need-same-length
+same-length c = search needs
+
+-- src/lib.rt:15:1
+returns : tie.Need-returns
+returns c = put-one _ _ _ (c .if1 .taken)
+
+-- src/lib.rt:15:1
+returns-2 : tie.Need-returns-2
+returns-2 c = put-full _ _ _ (c .if1 .left)
+
+pub put-byte-spec : {M : Type 1} → statement M
+put-byte-spec = tie.close (tie.spec slice-write-buf add-result same-length returns returns-2)
