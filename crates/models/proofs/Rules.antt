@@ -1,0 +1,53 @@
+-- What holds of the limits under every model number, by one test computed over the table.
+use Prim.Native.Nat.{ℕ, _*_, _/_, _%_, _^_, _≤_, _<_}
+use mathlib.Core.Path.{_≡_}
+use native.Mathlib.Omega.{arith}
+use Rattle.base.proofs.Product.{below}
+use Rattle.base.proofs.Table.{Check, lt, le, eq, _and_, everywhere}
+use Rattle.models.specs.declared.Limits.{Limits}
+use Rattle.models.specs.Models.{table, limitsOf, noLimits, voltReading, ampReading}
+
+-- every limit is below 2 ^ 24
+abbrev pub Small : Limits → Check
+Small l =
+    lt (l .volts) (2 ^ 24)
+    and lt (l .amps) (2 ^ 24)
+    and lt (l .«ovp_least») (2 ^ 24)
+    and lt (l .«ovp_most») (2 ^ 24)
+    and lt (l .«uvl_most») (2 ^ 24)
+
+-- both ratings are multiples of 100, and 105 % of each is a whole number
+abbrev pub Round : Limits → Check
+Round l =
+    eq (l .volts % 100) 0
+    and eq (l .amps % 100) 0
+    and eq (20 * (l .volts * 21 / 20)) (21 * l .volts)
+    and eq (20 * (l .amps * 21 / 20)) (21 * l .amps)
+
+-- there is room for OVP; and what the margins multiply fits 32 bits
+abbrev pub Margins : Limits → Check
+Margins l =
+    le (l .«ovp_least») (l .«ovp_most»)
+    and lt (21 * (l .volts * 21 / 20)) (2 ^ 32)
+    and lt (20 * l .«ovp_most») (2 ^ 32)
+    and lt (20 * l .«uvl_most») (2 ^ 32)
+
+abbrev pub Rules : Limits → Check
+Rules l = Small l and Round l and Margins l
+
+pub rules : (m : ℕ) → Rules (limitsOf m) .fact
+unfolding limitsOf table
+rules m = everywhere Rules table noLimits tt tt m
+
+-- a reading of any 16-bit count is below 2 ^ 25, so that it prints in 12 characters
+module _ (count rating : ℕ) (c : count < 2 ^ 16) (r : rating < 2 ^ 24) where
+  reading-small : count * rating / 50000 < 2 ^ 25
+  reading-small = omega (arith, below 16 24 c r)
+
+pub volts-small : (m count : ℕ) → count < 2 ^ 16 → voltReading m count < 2 ^ 25
+unfolding voltReading
+volts-small m count h = reading-small count (limitsOf m .volts) h (rules m .0 .0)
+
+pub amps-small : (m count : ℕ) → count < 2 ^ 16 → ampReading m count < 2 ^ 25
+unfolding ampReading
+amps-small m count h = reading-small count (limitsOf m .amps) h (rules m .0 .1 .0)
