@@ -1,0 +1,16 @@
+-- Laws of choice by a Bool: what a test that is known picks.
+use mathlib.Core.Path.{_≡_, refl}
+use mathlib.Core.Bool.{Bool, true, false}
+use Rattle.base.specs.Choice.{pick}
+
+module _ {A : Type 0} where
+  pub pick-true : (t : Bool) (a b : A) → t ≡ true → pick t a b ≡ a
+  pick-true t a b e = rw e refl
+
+  pub pick-false : (t : Bool) (a b : A) → t ≡ false → pick t a b ≡ b
+  pick-false t a b e = rw e refl
+
+  -- what holds of both holds of the one picked
+  pub pick-keeps : (P : A → Type 0) (t : Bool) (a b : A) → P a → P b → P (pick t a b)
+  pick-keeps P true a b p q = p
+  pick-keeps P false a b p q = q

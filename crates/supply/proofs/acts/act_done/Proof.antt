@@ -1,0 +1,125 @@
+-- `act_done` meets its contract.
+use Rattle.supply.specs.Acts.{acted, codeOf}
+use borrow.Author.Needs.{needs}
+use Rattle.supply.proofs.acts.act_done.Statement.{statement}
+use Rattle.supply.proofs.acts.act_done.Tie as tie
+use Rattle.supply.proofs.acts.act_done.Reads as reads
+use Rattle.supply.proofs.acts.act_done.Lts as lts
+use Rattle.supply.proofs.acts.query_done.Reads as query-done-reads
+use Rattle.supply.proofs.events.lines_changed.Reads as lines-changed-reads
+use Rattle.supply.proofs.events.press.Reads as press-reads
+use Rattle.supply.proofs.events.sampled_at.Reads as sampled-at-reads
+use Rattle.supply.proofs.events.turn.Reads as turn-reads
+use Rattle.supply.proofs.orders.order_done.Reads as order-done-reads
+
+-- src/acts.rt:63:20
+enum-known-a : tie.Need-enum-known-a
+enum-known-a c = search needs
+
+-- src/acts.rt:63:26
+lines-changed-requires : tie.Need-lines-changed-requires
+lines-changed-requires c κs = search needs
+
+-- src/acts.rt:64:21
+enum-known-a-2 : tie.Need-enum-known-a-2
+enum-known-a-2 c = search needs
+
+-- src/acts.rt:64:30
+sampled-at-requires : tie.Need-sampled-at-requires
+sampled-at-requires c κs = search needs
+
+-- src/acts.rt:65:20
+enum-known-a-3 : tie.Need-enum-known-a-3
+enum-known-a-3 c = search needs
+
+-- src/acts.rt:65:26
+press-requires : tie.Need-press-requires
+press-requires c κs = search needs
+
+-- src/acts.rt:66:19
+enum-known-a-4 : tie.Need-enum-known-a-4
+enum-known-a-4 c = search needs
+
+-- src/acts.rt:66:30
+turn-requires : tie.Need-turn-requires
+turn-requires c κs = search needs
+
+-- src/acts.rt:67:19
+enum-known-a-5 : tie.Need-enum-known-a-5
+enum-known-a-5 c = search needs
+
+-- src/acts.rt:67:25
+order-done-requires : tie.Need-order-done-requires
+order-done-requires c κs = search needs
+
+-- src/acts.rt:68:18
+enum-known-a-6 : tie.Need-enum-known-a-6
+enum-known-a-6 c = search needs
+
+-- src/acts.rt:68:24
+query-done-requires : tie.Need-query-done-requires
+query-done-requires c κs = search needs
+
+-- src/acts.rt:69:25
+enum-told : tie.Need-enum-told
+enum-told c = search needs
+
+-- src/acts.rt:59:1
+returns : tie.Need-returns
+unfolding acted codeOf
+returns c = λ e. rw (c .before .before .a .given .1) (c .lines-changed .ensures)
+
+-- src/acts.rt:59:1
+returns-2 : tie.Need-returns-2
+unfolding acted codeOf
+returns-2 c = λ e. rw (c .before .before .a2 .given .1) (c .sampled-at .ensures)
+
+-- src/acts.rt:59:1
+returns-3 : tie.Need-returns-3
+unfolding acted codeOf
+returns-3 c = λ e. rw (c .before .before .a3 .given .1) (c .press .ensures)
+
+-- src/acts.rt:59:1
+returns-4 : tie.Need-returns-4
+unfolding acted codeOf
+returns-4 c = λ e. rw (c .before .before .a4 .given .1) (c .turn .ensures)
+
+-- src/acts.rt:59:1
+returns-5 : tie.Need-returns-5
+unfolding acted codeOf
+returns-5 c = λ e. rw (c .before .before .a5 .given .1) (c .order-done .ensures (rw (c .before .before .a5 .given .1) at e))
+
+-- src/acts.rt:59:1
+returns-6 : tie.Need-returns-6
+unfolding acted codeOf
+returns-6 c = λ e. rw (c .before .before .a6 .given .1) (c .query-done .ensures)
+
+-- src/acts.rt:59:1
+returns-7 : tie.Need-returns-7
+unfolding acted codeOf
+returns-7 c = λ e. rw (c .enum-told .given .1)
+
+pub act-done-spec : {M : Type 1} → statement M
+act-done-spec =
+    tie.close
+    (tie.spec
+    enum-known-a
+    lines-changed-requires
+    enum-known-a-2
+    sampled-at-requires
+    enum-known-a-3
+    press-requires
+    enum-known-a-4
+    turn-requires
+    enum-known-a-5
+    order-done-requires
+    enum-known-a-6
+    query-done-requires
+    enum-told
+    returns
+    returns-2
+    returns-3
+    returns-4
+    returns-5
+    returns-6
+    returns-7)

@@ -1,0 +1,24 @@
+-- `settle` meets its contract.
+use Rattle.supply.specs.Flt.{settled}
+use borrow.Author.Needs.{needs}
+use Rattle.supply.proofs.fault.settle.Statement.{statement}
+use Rattle.supply.proofs.fault.settle.Tie as tie
+use Rattle.supply.proofs.fault.settle.Reads as reads
+use Rattle.supply.proofs.fault.settle.Lts as lts
+use Rattle.supply.proofs.fault.flt.Reads as flt-reads
+
+-- src/fault.rt:41:9
+flt-requires : tie.Need-flt-requires
+flt-requires c κs = search needs
+
+-- src/fault.rt:42:9
+flt-requires-2 : tie.Need-flt-requires-2
+flt-requires-2 c κs = search needs
+
+-- src/fault.rt:38:1
+returns : tie.Need-returns
+unfolding settled
+returns c = rw (c .before .before .flt2 .ensures, c .before .before .before .flt .ensures)
+
+pub settle-spec : {M : Type 1} → statement M
+settle-spec = tie.close (tie.spec flt-requires flt-requires-2 returns)

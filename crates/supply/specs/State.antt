@@ -1,0 +1,45 @@
+-- The plain supply when it is fresh, and the codes by which it refuses an order.
+use Prim.Native.Nat.{ℕ}
+use mathlib.Core.Bool.{false}
+use Rattle.models.specs.Models.{limitsOf}
+use Rattle.supply.specs.declared.Supply.{Supply}
+
+-- fresh: OVP most, all else 0
+unfoldable pub fresh : ℕ → Supply
+fresh m =
+    record {
+      pv = 0;
+      pc = 0;
+      ovp = limitsOf m .«ovp_most»;
+      uvl = 0;
+      want = false;
+      armed = false;
+      ast = false;
+      mode = 0;
+      lines = 0;
+      «fold_trip» = false;
+      «ovp_trip» = false;
+      fena = 0;
+      feve = 0;
+      «volt_count» = 0;
+      «amp_count» = 0;
+    }
+
+-- a code is a byte that reads as its name in hexadecimal, and 0 is an accepted order
+abbrev pub c05 : ℕ
+c05 = 0xC5
+
+abbrev pub e01 : ℕ
+e01 = 0xE1
+
+abbrev pub e02 : ℕ
+e02 = 0xE2
+
+abbrev pub e04 : ℕ
+e04 = 0xE4
+
+abbrev pub e06 : ℕ
+e06 = 0xE6
+
+abbrev pub e07 : ℕ
+e07 = 0xE7
