@@ -39,6 +39,22 @@ pub rules : (m : ℕ) → Rules (limitsOf m) .fact
 unfolding limitsOf table
 rules m = everywhere Rules table noLimits tt tt m
 
+-- the rules that other layers cite, by name
+pub volts-lt : (m : ℕ) → limitsOf m .volts < 2 ^ 24
+volts-lt m = rules m .0 .0
+
+pub amps-lt : (m : ℕ) → limitsOf m .amps < 2 ^ 24
+amps-lt m = rules m .0 .1 .0
+
+pub ovp-most-lt : (m : ℕ) → limitsOf m .«ovp_most» < 2 ^ 24
+ovp-most-lt m = rules m .0 .1 .1 .1 .0
+
+pub uvl-most-lt : (m : ℕ) → limitsOf m .«uvl_most» < 2 ^ 24
+uvl-most-lt m = rules m .0 .1 .1 .1 .1
+
+pub ovp-room : (m : ℕ) → limitsOf m .«ovp_least» ≤ limitsOf m .«ovp_most»
+ovp-room m = rules m .1 .1 .0
+
 -- a reading of any 16-bit count is below 2 ^ 25, so that it prints in 12 characters
 module _ (count rating : ℕ) (c : count < 2 ^ 16) (r : rating < 2 ^ 24) where
   reading-small : count * rating / 50000 < 2 ^ 25
@@ -46,8 +62,8 @@ module _ (count rating : ℕ) (c : count < 2 ^ 16) (r : rating < 2 ^ 24) where
 
 pub volts-small : (m count : ℕ) → count < 2 ^ 16 → voltReading m count < 2 ^ 25
 unfolding voltReading
-volts-small m count h = reading-small count (limitsOf m .volts) h (rules m .0 .0)
+volts-small m count h = reading-small count (limitsOf m .volts) h (volts-lt m)
 
 pub amps-small : (m count : ℕ) → count < 2 ^ 16 → ampReading m count < 2 ^ 25
 unfolding ampReading
-amps-small m count h = reading-small count (limitsOf m .amps) h (rules m .0 .1 .0)
+amps-small m count h = reading-small count (limitsOf m .amps) h (amps-lt m)

@@ -8,7 +8,7 @@ use lib.IntN.{ℤ, pos, negsuc, _+ℤ_}
 use borrow.Author.Tests.{ltb-true, ltb-false, le-ltb, lt-ltb}
 use Rattle.base.specs.Choice.{pick}
 use Rattle.models.specs.Models.{limitsOf}
-use Rattle.models.proofs.Rules.{rules}
+use Rattle.models.proofs.Rules.{volts-lt, amps-lt, ovp-most-lt, uvl-most-lt}
 use Rattle.supply.specs.declared.Supply.{Supply}
 use Rattle.supply.specs.declared.Target.{Target}
 use Rattle.supply.specs.declared.Target.the-variants.{Pv, Pc, Ovp, Uvl}
@@ -20,19 +20,16 @@ use Rattle.supply.specs.Orders.{above105, setCode, orderCode}
 -- the greatest value of a setting fits 32 bits
 pub most-fits : (m : ℕ) (s : Supply) (t : Target) → mostOf m s t < 2 ^ 32
 unfolding mostOf
-most-fits m s Pv = omega (arith, rules m .0 .0)
-most-fits m s Pc = omega (arith, rules m .0 .1 .0)
-most-fits m s Ovp = omega (arith, rules m .0 .1 .1 .1 .0)
-most-fits m s Uvl = omega (arith, rules m .0 .1 .1 .1 .1)
+most-fits m s Pv = omega (arith, volts-lt m)
+most-fits m s Pc = omega (arith, amps-lt m)
+most-fits m s Ovp = omega (arith, ovp-most-lt m)
+most-fits m s Uvl = omega (arith, uvl-most-lt m)
 
 -- a step below 0 is the raw number less 2 ^ 32
 pub sum-below : (x raw : ℕ) → 0x80000000 ≤ raw → raw < 0x100000000 → natPart (pos x +ℤ signedOf raw) ≡ x + raw - 0x100000000
 unfolding signedOf
 sum-below x raw l h = rw (le-ltb raw 0x80000000 l) (bySign (ltb x (suc (0xFFFFFFFF - raw))) refl)
   where
-    n : ℕ
-    n = 0xFFFFFFFF - raw
-
     bySign : (t : Bool) → ltb x (suc (0xFFFFFFFF - raw)) ≡ t → natPart (cond t (negsuc (suc (0xFFFFFFFF - raw) - suc x)) (pos (x - suc (0xFFFFFFFF - raw)))) ≡ x + raw - 0x100000000
     bySign true e = omega (arith, ltb-true x (suc (0xFFFFFFFF - raw)) e)
     bySign false e = omega (arith, ltb-false x (suc (0xFFFFFFFF - raw)) e)
@@ -48,12 +45,12 @@ or-false false b e = (refl, e)
 
 pub set-fits : (m : ℕ) (s : Supply) (t : Target) (n : ℕ) → setCode m s t n ≡ 0 → n < 2 ^ 32
 unfolding setCode
-set-fits m s Pv n e = omega (arith, rules m .0 .0, ltb-false (21 * limitsOf m .volts) (20 * n) (first-passed (above105 (limitsOf m .volts) n) 196 _ e))
-set-fits m s Pc n e = omega (arith, rules m .0 .1 .0, ltb-false (21 * limitsOf m .amps) (20 * n) (first-passed (above105 (limitsOf m .amps) n) 196 _ e))
+set-fits m s Pv n e = omega (arith, volts-lt m, ltb-false (21 * limitsOf m .volts) (20 * n) (first-passed (above105 (limitsOf m .volts) n) 196 _ e))
+set-fits m s Pc n e = omega (arith, amps-lt m, ltb-false (21 * limitsOf m .amps) (20 * n) (first-passed (above105 (limitsOf m .amps) n) 196 _ e))
 set-fits m s Ovp n e =
     let f = or-false (ltb n (limitsOf m .«ovp_least»)) (ltb (limitsOf m .«ovp_most») n) (first-passed (ltb n (limitsOf m .«ovp_least») || ltb (limitsOf m .«ovp_most») n) 196 _ e) in
-    omega (arith, rules m .0 .1 .1 .1 .0, ltb-false (limitsOf m .«ovp_most») n (f .1))
-set-fits m s Uvl n e = omega (arith, rules m .0 .1 .1 .1 .1, ltb-false (limitsOf m .«uvl_most») n (first-passed (ltb (limitsOf m .«uvl_most») n) 196 _ e))
+    omega (arith, ovp-most-lt m, ltb-false (limitsOf m .«ovp_most») n (f .1))
+set-fits m s Uvl n e = omega (arith, uvl-most-lt m, ltb-false (limitsOf m .«uvl_most») n (first-passed (ltb (limitsOf m .«uvl_most») n) 196 _ e))
 
 -- the low 32 bits of an accepted figure are all of it
 pub set-low : (m : ℕ) (s : Supply) (t : Target) (n : ℕ) → orderCode m s (Set t n) ≡ 0 → n % 0x100000000 ≡ n

@@ -106,11 +106,7 @@ fn output_key(s: Supply) -> Supply
         t.want = false;
         return t;
     }
-    if fault::lines_clear(s) {
-        turn_on(s)
-    } else {
-        s
-    }
+    if fault::lines_clear(s) { turn_on(s) } else { s }
 }
 
 fn fold_key(s: Supply) -> Supply
@@ -130,20 +126,8 @@ pub fn press(s: Supply, k: Key) -> Supply
     ensures { λ r. ⌜ r ≡ pressed s k ⌝ }
 {
     match k {
-        Key::Output => {
-            if s.mode == 0 {
-                output_key(s)
-            } else {
-                s
-            }
-        }
-        Key::Fold => {
-            if s.mode == 0 {
-                fold_key(s)
-            } else {
-                s
-            }
-        }
+        Key::Output => { if s.mode == 0 { output_key(s) } else { s } }
+        Key::Fold => { if s.mode == 0 { fold_key(s) } else { s } }
         Key::Local => {
             if s.mode == 1 {
                 let mut t = s;

@@ -1,16 +1,16 @@
 // The plain supply: its state, whatever it can be asked to do, and what comes of it. The model goes beside the state.
+mod acts;
 mod answers;
 mod events;
 mod fault;
 mod orders;
-mod acts;
 mod settings;
 
+pub use acts::perform;
 pub use answers::answer_to;
 pub use fault::flt;
 pub use fault::is_on;
 pub use orders::fresh_supply;
-pub use acts::perform;
 
 // The whole state of a supply. Figures in ticks of 0.1 mV and in mA; mode is 0 local, 1 remote, 2 locked out.
 pub struct Supply {

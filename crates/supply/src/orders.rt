@@ -17,10 +17,15 @@ use crate::fault;
 use crate::settings;
 
 const C05: u8 = 0xC5;
+
 const E01: u8 = 0xE1;
+
 const E02: u8 = 0xE2;
+
 const E04: u8 = 0xE4;
+
 const E06: u8 = 0xE6;
+
 const E07: u8 = 0xE7;
 
 // A supply as it is fitted.
@@ -110,11 +115,7 @@ fn set_code(model: u8, s: Supply, t: Target, n: u64) -> u8
 fn out_code(on: bool, clear: bool) -> u8
     ensures { λ r. ⌜ r ≡ outCode on clear ⌝ }
 {
-    if on {
-        if clear { 0 } else { E07 }
-    } else {
-        0
-    }
+    if on { if clear { 0 } else { E07 } } else { 0 }
 }
 
 // The code of an order, 0 where it is accepted.
@@ -183,11 +184,7 @@ fn put_fld(s: Supply, on: bool) -> Supply
         t.armed = true;
         return t;
     }
-    if s.armed {
-        events::disarm(s)
-    } else {
-        s
-    }
+    if s.armed { events::disarm(s) } else { s }
 }
 
 fn reset_supply(model: u8, s: Supply) -> Supply
