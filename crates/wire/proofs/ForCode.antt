@@ -1,0 +1,124 @@
+-- What code does, against the definitions: an item of the stream, a slot replaced, a loop over the slots, one reply after the other.
+use mathlib.Core.Path.{_≡_, refl, sym, ap, _∙_}
+use mathlib.Core.Bool.{Bool, true, false}
+use mathlib.Core.List.{List, [], _∷_, _++_, foldl, append-assoc, append-nil}
+use Prim.Native.Nat.{ℕ, zero, suc, _+_, _≤_, _<_}
+use native.Mathlib.Numerals.{add-one}
+use native.Mathlib.Nat.{le-of-suc-le-suc, not-suc-le-zero}
+use lib.Dec.{eqb}
+use lib.ListN.{length, getD, set, length-set, List·getD-eq-default}
+use lib.Seq.{ext-getD, set-getD, getD-set-same, getD-set-other}
+use borrow.Author.Tests.{eqb-true, eqb-false}
+use Rattle.base.specs.Choice.{pick}
+use Rattle.base.specs.Lists.{tabulate}
+use Rattle.base.proofs.Lists.{length-tabulate, getD-tabulate, tabulate-same}
+use Rattle.wire.specs.Wire.{Entry, Delivery, one, all, say, Item, event, Grammar, modelAt, fitted, Wire, Sent, followed, byteOn, itemOn, scan}
+use Rattle.wire.specs.Rack.{Plain, Rack, next, stateAt, deliver, replies, moved}
+use Rattle.wire.specs.declared.Setup.{Setup}
+use Rattle.wire.proofs.Stream.{on-char, scan-append}
+use Rattle.wire.proofs.Calls.{moved-twice}
+
+-- the list with f i applied to the element i, for its first k elements: what a loop over an array has done after k turns
+abbrev pub eachTo : {A : Type 0} → (ℕ → A → A) → ℕ → List A → List A
+eachTo f zero l = l
+eachTo f (suc k) [] = []
+eachTo f (suc k) (x ∷ l) = f 0 x ∷ eachTo (λ i. f (suc i)) k l
+
+module _ {A : Type 0} where
+  -- one turn more; past the end nothing changes
+  eachTo-step : (f : ℕ → A → A) (k : ℕ) (l : List A) (d : A) → set (eachTo f k l) k (f k (getD (eachTo f k l) k d)) ≡ eachTo f (suc k) l
+  eachTo-step f zero [] d = refl
+  eachTo-step f (suc k) [] d = refl
+  eachTo-step f zero (x ∷ l) d = refl
+  eachTo-step f (suc k) (x ∷ l) d = ap (λ (t : List A). f 0 x ∷ t) (eachTo-step (λ i. f (suc i)) k l d)
+
+  -- a turn of a loop whose invariant is `xs ≡ eachTo f k l`: the element k, as it stands, is replaced
+  pub eachTo-again : (f : ℕ → A → A) (k : ℕ) (l xs : List A) (d y : A) → xs ≡ eachTo f k l → y ≡ f k (getD xs k d) → set xs k y ≡ eachTo f (k + 1) l
+  eachTo-again f k l xs d y e g = rw (add-one, g, e) (eachTo-step f k l d)
+
+  -- a turn that leaves it, where f would
+  pub eachTo-skip : (f : ℕ → A → A) (k : ℕ) (l xs : List A) (d : A) → xs ≡ eachTo f k l → f k (getD xs k d) ≡ getD xs k d → xs ≡ eachTo f (k + 1) l
+  eachTo-skip f k l xs d e g = sym (set-getD xs k d) ∙ eachTo-again f k l xs d (getD xs k d) e (sym g)
+
+  -- the loop's end: as many turns as there are elements, or more
+  pub eachTo-all : (f : ℕ → A → A) (k : ℕ) (l : List A) (d : A) → length l ≤ k → eachTo f k l ≡ tabulate (length l) (λ i. f i (getD l i d))
+  eachTo-all f zero [] d h = refl
+  eachTo-all f (suc k) [] d h = refl
+  eachTo-all f zero (x ∷ l) d h = absurd (not-suc-le-zero h)
+  eachTo-all f (suc k) (x ∷ l) d h = ap (λ (t : List A). f 0 x ∷ t) (eachTo-all (λ i. f (suc i)) k l d (le-of-suc-le-suc h))
+
+  getD-any : (l : List A) (i : ℕ) (d e : A) → i < length l → getD l i d ≡ getD l i e
+  getD-any [] i d e h = absurd (not-suc-le-zero h)
+  getD-any (x ∷ l) zero d e h = refl
+  getD-any (x ∷ l) (suc i) d e h = getD-any l i d e (le-of-suc-le-suc h)
+
+-- the model of an address, read from the array, whatever an array's element past its end stands for; and past its end
+pub model-inside : (u : Setup) (a d : ℕ) → a < length (u .models) → getD (u .models) a d ≡ modelAt u a
+model-inside u a d h = getD-any (u .models) a d 255 h
+
+pub model-past : (u : Setup) (a : ℕ) → length (u .models) ≤ a → modelAt u a ≡ 255
+model-past u a h = List·getD-eq-default (u .models) 255 h
+
+module _ (γ : Grammar) (u : Setup) where
+  -- a byte that ends no line hands out nothing
+  pub byte-quiet : (w : Wire) (b : ℕ) → eqb b 13 ≡ false → byteOn γ u w b .sent ≡ []
+  byte-quiet w b r = ap (λ (s : Sent). s .sent) (on-char γ u (w .sel) (record { kept = w .kept; spoiled = w .spoiled }) b r)
+
+  -- a field of another tag leaves the line as it is
+  pub scan-event : (w : Wire) (a : ℕ) (e : Entry) → scan γ u w (event a e ∷ []) ≡ record { wire = w; sent = one a e ∷ [] }
+  scan-event w a e = refl
+
+  -- one item more of a stream
+  pub scan-more : (w : Wire) (is : List Item) (i : Item) → scan γ u w (is ++ i ∷ []) ≡ followed (scan γ u w is) (itemOn γ u (scan γ u w is .wire) i)
+  scan-more w is i = rw (scan-append γ u w is (i ∷ []), append-nil)
+
+module _ (M : Plain) (u : Setup) where
+  open Plain M using (State, step, fresh)
+
+  -- slots[a] = step(slots[a], e), whatever stands for a slot past the last
+  pub deliver-one : (ss : List State) (a : ℕ) (e : Entry) (d : State) → deliver M u ss (one a e) ≡ set ss a (step (modelAt u a) (getD ss a d) e)
+  deliver-one ss a e d =
+      ext-getD (fresh 255) _ _ (length-tabulate (length ss) (next M u (stateAt M ss) (one a e)) ∙ sym (length-set ss a _))
+      (λ i l. let h : i < length ss = rw length-tabulate at l in getD-tabulate (length ss) (next M u (stateAt M ss) (one a e)) i (fresh 255) h ∙ byTest i h (eqb i a) refl)
+    where
+      byTest : (i : ℕ) → i < length ss → (t : Bool) → eqb i a ≡ t → next M u (stateAt M ss) (one a e) i ≡ getD (set ss a (step (modelAt u a) (getD ss a d) e)) i (fresh 255)
+      byTest i h true q =
+          let j : a < length ss = rw (eqb-true i a q) at h in
+          rw (q, eqb-true i a q, getD-any ss a (fresh 255) d j) (sym (getD-set-same ss a _ (fresh 255) j))
+      byTest i h false q = rw q (sym (getD-set-other ss a i _ (fresh 255) (eqb-false i a q)))
+
+  -- a loop that lets each fitted slot take the entry
+  pub deliver-all : (ss : List State) (e : Entry) (n : ℕ) → length ss ≤ n → eachTo (λ a s. pick (fitted u a) (step (modelAt u a) s e) s) n ss ≡ deliver M u ss (all e)
+  deliver-all ss e n h = eachTo-all (λ a s. pick (fitted u a) (step (modelAt u a) s e) s) n ss (fresh 255) h
+
+  -- a loop that fills place a with what the delivery makes of the old slots
+  pub deliver-filled : (ss : List State) (d : Delivery) (n : ℕ) → length ss ≤ n → eachTo (λ a s. next M u (stateAt M ss) d a) n ss ≡ deliver M u ss d
+  deliver-filled ss d n h = eachTo-all (λ a s. next M u (stateAt M ss) d a) n ss (fresh 255) h
+
+  -- a reply of the line's own moves nothing
+  pub deliver-say : (ss : List State) (t : List ℕ) → deliver M u ss (say t) ≡ ss
+  deliver-say ss t = tabulate-same (fresh 255) ss
+
+  -- replies come one delivery after the other, each from the slots as those before left them
+  pub replies-append : (ss : List State) (ds es : List Delivery) → replies M u ss (ds ++ es) ≡ replies M u ss ds ++ replies M u (foldl (deliver M u) ss ds) es
+  replies-append ss [] es = refl
+  replies-append ss (d ∷ ds) es = rw (replies-append (deliver M u ss d) ds es, append-assoc)
+
+-- a turn of the loop over a call's items: what the next one does to the rack, and replies, on the rack as the turns before left it
+module _ (M : Plain) (r : Rack (M .State)) (is : List Item) (i : Item) where
+  open Plain M using (State, grammar)
+
+  abbrev before : Rack State
+  before = moved M r (scan grammar (r .setup) (r .wire) is)
+
+  pub moved-more : moved M r (scan grammar (r .setup) (r .wire) (is ++ i ∷ [])) ≡ moved M before (itemOn grammar (r .setup) (before .wire) i)
+  moved-more =
+      ap (moved M r) (scan-more grammar (r .setup) (r .wire) is i)
+      ∙ moved-twice M r (scan grammar (r .setup) (r .wire) is) (itemOn grammar (r .setup) (before .wire) i)
+
+  pub replies-more :
+      replies M (r .setup) (r .slots) (scan grammar (r .setup) (r .wire) (is ++ i ∷ []) .sent)
+      ≡ replies M (r .setup) (r .slots) (scan grammar (r .setup) (r .wire) is .sent) ++ replies M (r .setup) (before .slots) (itemOn grammar (r .setup) (before .wire) i .sent)
+  replies-more =
+      rw (scan-more grammar (r .setup) (r .wire) is i)
+      (replies-append M (r .setup) (r .slots) (scan grammar (r .setup) (r .wire) is .sent) (itemOn grammar (r .setup) (before .wire) i .sent))

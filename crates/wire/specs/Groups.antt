@@ -1,0 +1,41 @@
+-- Slots taken together: what a group of them ends as. In this rack no slot acts on another, so that any set of fitted slots is a
+-- closed group, a single one too; where slots act on each other, a group holds with each all that it acts on.
+use mathlib.Core.Path.{_≡_}
+use mathlib.Core.Bool.{Bool, true, false}
+use mathlib.Core.List.{List}
+use Prim.Native.Nat.{ℕ}
+use Rattle.wire.specs.Wire.{Delivery, one, all, say, Call, modelAt, fitted}
+use Rattle.wire.specs.Share.{jointShare}
+use Rattle.wire.specs.Rack.{Plain, next, run, slot, together}
+use Rattle.wire.specs.declared.Setup.{Setup}
+
+-- what touches a group: an entry to one of its slots, and every global
+abbrev pub touching : (ℕ → Bool) → Delivery → Bool
+touching g (one a e) = g a
+touching g (all e) = true
+touching g (say t) = false
+
+-- The addresses of g, fitted under u, with the same models under v: what a delivery that touches g does there is decided by the
+-- states in g, alike under both setups, and one that does not touch g does nothing there.
+pub record Closed (M : Plain) (u v : Setup) (g : ℕ → Bool) (touches : Delivery → Bool) : Type 0 where
+  pub inside : (a : ℕ) → g a ≡ true → fitted u a ≡ true
+  pub models : (a : ℕ) → g a ≡ true → modelAt u a ≡ modelAt v a
+  pub local :
+      (f h : ℕ → M .State) (d : Delivery)
+      → ((a : ℕ) → g a ≡ true → f a ≡ h a)
+      → touches d ≡ true
+      → (a : ℕ) → g a ≡ true → next M u f d a ≡ next M v h d a
+  pub frame : (f : ℕ → M .State) (d : Delivery) → touches d ≡ false → (a : ℕ) → g a ≡ true → next M u f d a ≡ f a
+
+module _ (M : Plain) (g : ℕ → Bool) (touches : Delivery → Bool) where
+  open Plain M using (grammar)
+
+  -- the group ends as its plain supplies do, taken together, on the joint share
+  pub record GroupEnds (u : Setup) (calls : List Call) : Type 0 where
+    pub ends : (a : ℕ) → g a ≡ true → slot M (run M u calls) a ≡ together M u (jointShare grammar u calls touches) a
+
+  -- under two setups alike in the group, two lists with the same joint share leave it in the same states
+  pub record GroupAlike (u v : Setup) (calls₁ calls₂ : List Call) : Type 0 where
+    pub alike :
+        jointShare grammar u calls₁ touches ≡ jointShare grammar v calls₂ touches
+        → (a : ℕ) → g a ≡ true → slot M (run M u calls₁) a ≡ slot M (run M v calls₂) a

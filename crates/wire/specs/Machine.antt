@@ -1,0 +1,33 @@
+-- Any machine that inputs move from state to state: what it means that it is tripped. And lists of inputs, sorted.
+use mathlib.Core.Path.{_≡_}
+use mathlib.Core.Bool.{Bool, true, not, _&&_}
+use mathlib.Core.List.{List, [], _∷_, _++_, foldl}
+use Rattle.base.specs.Choice.{pick}
+
+-- x alone where the test holds, else nothing
+abbrev pub given : {D : Type 0} → Bool → D → List D
+given t x = pick t (x ∷ []) []
+
+-- the inputs that pass a test, in order
+abbrev pub keep : {D : Type 0} → (D → Bool) → List D → List D
+keep t [] = []
+keep t (d ∷ ds) = pick (t d) (d ∷ keep t ds) (keep t ds)
+
+-- what f makes of each input, in order
+abbrev pub flat : {D E : Type 0} → (D → List E) → List D → List E
+flat f [] = []
+flat f (d ∷ ds) = f d ++ flat f ds
+
+-- no input of the list, in the state that it meets, is a release
+abbrev pub noRelease : {X E : Type 0} → (X → E → X) → (X → E → Bool) → X → List E → Bool
+noRelease act rel x [] = true
+noRelease act rel x (e ∷ es) = not (rel x e) && noRelease act rel (act x e) es
+
+-- The list es trips the machine and does not release it: the trip's flag is set after one of its inputs, and no later one is a release.
+pub record Tripped {X E : Type 0} (act : X → E → X) (start : X) (flag : X → Bool) (rel : X → E → Bool) (es : List E) : Type 0 where
+  pub before : List E
+  pub entry : E
+  pub mid : List E
+  pub splits : es ≡ before ++ entry ∷ mid
+  pub trips : flag (act (foldl act start before) entry) ≡ true
+  pub unreleased : noRelease act rel (act (foldl act start before) entry) mid ≡ true

@@ -1,0 +1,97 @@
+-- The rack: what a call and a list of calls make of the supplies and the line.
+use mathlib.Core.List.{List, [], _∷_, _++_, foldl}
+use Prim.Native.Nat.{ℕ}
+use lib.Dec.{eqb}
+use lib.ListN.{length, getD}
+use Rattle.base.specs.Choice.{pick}
+use Rattle.base.specs.Lists.{tabulate}
+use Rattle.wire.specs.Wire.{Entry, Delivery, one, all, say, Grammar, modelAt, fitted, Wire, Sent, Call, Parsed, refuse, accept, freshWire, parse, scan}
+use Rattle.wire.specs.declared.Setup.{Setup}
+
+-- a plain supply: its whole state; what an entry does to the supply of a model, and its reply; its fresh state; and the line's grammar
+pub record Plain : Type 1 where
+  pub State : Type 0
+  pub step : ℕ → State → Entry → State
+  pub reply : ℕ → State → Entry → List ℕ
+  pub fresh : ℕ → State
+  pub grammar : Grammar
+
+pub record Rack (S : Type 0) : Type 0 where
+  pub setup : Setup
+  pub slots : List S
+  pub wire : Wire
+
+-- what a call answers: the number of a refusal; or the new rack, the bytes used and the reply
+pub data Answer (S : Type 0) : Type 0 where
+  refused : ℕ → Answer S
+  done : Rack S → ℕ → List ℕ → Answer S
+
+module _ (M : Plain) where
+  open Plain M using (State, step, reply, fresh, grammar)
+
+  -- HOW SUPPLIES ACT ON EACH OTHER: the state at the address a after a delivery, from the states at all addresses
+  abbrev pub next : Setup → (ℕ → State) → Delivery → ℕ → State
+  next u f (one b e) a = pick (eqb a b) (step (modelAt u a) (f a) e) (f a)
+  next u f (all e) a = pick (fitted u a) (step (modelAt u a) (f a) e) (f a)
+  next u f (say t) a = f a
+
+  -- the state at each address
+  abbrev pub stateAt : List State → ℕ → State
+  stateAt ss a = getD ss a (fresh 255)
+
+  abbrev pub deliver : Setup → List State → Delivery → List State
+  deliver u ss d = tabulate (length ss) (next u (stateAt ss) d)
+
+  -- the reply to a delivery: globals draw none
+  abbrev pub replyTo : Setup → List State → Delivery → List ℕ
+  replyTo u ss (one a e) = reply (modelAt u a) (stateAt ss a) e
+  replyTo u ss (all e) = []
+  replyTo u ss (say t) = t
+
+  abbrev pub replies : Setup → List State → List Delivery → List ℕ
+  replies u ss [] = []
+  replies u ss (d ∷ ds) = replyTo u ss d ++ replies u (deliver u ss d) ds
+
+  -- the rack after what the line has handed out
+  abbrev pub moved : Rack State → Sent → Rack State
+  moved r s = record { setup = r .setup; slots = foldl (deliver (r .setup)) (r .slots) (s .sent); wire = s .wire }
+
+  abbrev pub answered : Rack State → ℕ → Sent → Answer State
+  answered r used s = done (moved r s) used (replies (r .setup) (r .slots) (s .sent))
+
+  abbrev pub answerOf : Rack State → Parsed → Answer State
+  answerOf r (refuse n) = refused n
+  answerOf r (accept used is) = answered r used (scan grammar (r .setup) (r .wire) is)
+
+  -- ONE CALL
+  unfoldable pub callOf : Rack State → Call → Answer State
+  callOf r c = answerOf r (parse grammar (r .setup) c)
+
+  -- the rack that the call returned or, refusing, left
+  abbrev pub after : Rack State → Answer State → Rack State
+  after r (refused n) = r
+  after r (done q used t) = q
+
+  -- a list of calls: the first gets the rack r, each later one the rack that the call before returned or left
+  abbrev pub runFrom : Rack State → List Call → Rack State
+  runFrom r [] = r
+  runFrom r (c ∷ cs) = runFrom (after r (callOf r c)) cs
+
+  -- 01's fresh rack
+  abbrev pub freshRack : Setup → Rack State
+  freshRack u = record { setup = u; slots = tabulate (length (u .models)) (λ a. fresh (modelAt u a)); wire = freshWire }
+
+  abbrev pub run : Setup → List Call → Rack State
+  run u calls = runFrom (freshRack u) calls
+
+  -- the supply at an address
+  abbrev pub slot : Rack State → ℕ → State
+  slot r a = stateAt (r .slots) a
+
+  -- the plain supply of a model, from fresh, on a list of entries
+  abbrev pub plain : ℕ → List Entry → State
+  plain m es = foldl (step m) (fresh m) es
+
+  -- the plain supplies at all addresses, acting on each other as the setup says, from fresh, on a list of deliveries
+  abbrev pub together : Setup → List Delivery → ℕ → State
+  together u ds = foldl (next u) (λ a. fresh (modelAt u a)) ds

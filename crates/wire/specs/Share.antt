@@ -1,0 +1,92 @@
+-- An address's share of a list of calls, from the calls and the setup alone: the paper read a second time, in passes over the
+-- one stream of all accepted fields. The rack's own way through the stream, in Wire.antt, is not used here.
+use mathlib.Core.Bool.{Bool, true, false}
+use mathlib.Core.List.{List, [], _∷_, _++_, foldl}
+use Prim.Native.Nat.{ℕ, _-_}
+use lib.Dec.{eqb, ltb}
+use lib.ListN.{length, take}
+use Rattle.base.specs.Choice.{pick}
+use Rattle.wire.specs.Machine.{given, flat, keep}
+use Rattle.wire.specs.Wire.{Entry, line, Delivery, one, all, say, Class, select, faulty, global, other, Item, byte, event, Parsed, refuse, accept, Grammar, fitted, Call, nobody, parse}
+use Rattle.wire.specs.declared.Setup.{Setup}
+
+-- what an accepted call adds to the stream; a refused one adds nothing
+abbrev pub items : Parsed → List Item
+items (refuse n) = []
+items (accept used is) = is
+
+-- "The serial bytes of all accepted fields form one stream": that of a list of calls, the other fields at their places in it
+abbrev pub stream : Grammar → Setup → List Call → List Item
+stream γ u calls = flat (λ c. items (parse γ u c)) calls
+
+-- a line as typed
+pub record Typed : Type 0 where
+  pub kept : List ℕ
+  pub spoiled : Bool
+
+-- one byte more of a line, not its CR: LF is ignored, backspace drops the last character kept; a line holds 64 characters, a
+-- further one is dropped and spoils the line
+abbrev pub typing : Typed → ℕ → Typed
+typing t b =
+    pick (eqb b 10) t
+    (pick (eqb b 8) (record { kept = take (length (t .kept) - 1) (t .kept); spoiled = t .spoiled })
+    (pick (ltb (length (t .kept)) 64) (record { kept = t .kept ++ b ∷ []; spoiled = t .spoiled })
+    (record { kept = t .kept; spoiled = true })))
+
+-- the line that the bytes before its CR make
+unfoldable pub typed : List ℕ → Typed
+typed bytes = foldl typing (record { kept = []; spoiled = false }) bytes
+
+-- a piece of the stream: a line at its CR, or a field of another tag with its address
+pub data Piece : Type 0 where
+  ended : Typed → Piece
+  came : ℕ → Entry → Piece
+
+-- FIRST PASS: the stream is cut into lines and other fields; `bytes` have come since the last CR
+abbrev pub pieces : List ℕ → List Item → List Piece
+pieces bytes [] = []
+pieces bytes (event a e ∷ is) = came a e ∷ pieces bytes is
+pieces bytes (byte b ∷ is) = pick (eqb b 13) (ended (typed bytes) ∷ pieces [] is) (pieces (bytes ++ b ∷ []) is)
+
+module _ (u : Setup) where
+  -- who is selected after a line: ADR selects the slot that it names, nobody where that is empty; no other line selects
+  abbrev pub selected : ℕ → Class → ℕ
+  selected sel (select a t) = pick (fitted u a) a nobody
+  selected sel (faulty t) = sel
+  selected sel global = sel
+  selected sel other = sel
+
+  -- to whom a line goes: ADR, in error too, and an ill-formed global to nobody; a well-formed global to all; any other line to
+  -- the slot selected, if there is one
+  abbrev pub handed : ℕ → Entry → Class → List Delivery
+  handed sel e (select a t) = []
+  handed sel e (faulty t) = []
+  handed sel e global = all e ∷ []
+  handed sel e other = given (fitted u sel) (one sel e)
+
+module _ (γ : Grammar) (u : Setup) where
+  -- SECOND PASS: who is selected at each CR, and to whom the line goes
+  abbrev pub routes : ℕ → List Piece → List Delivery
+  routes sel [] = []
+  routes sel (came a e ∷ ps) = one a e ∷ routes sel ps
+  routes sel (ended t ∷ ps) =
+      let c = γ .classOf (t .kept) (t .spoiled) in
+      handed u sel (line (t .kept) (t .spoiled)) c ++ routes (selected u sel c) ps
+
+  -- what a list of calls brings to the supplies, in order; a fresh rack selects nobody
+  unfoldable pub brought : List Call → List Delivery
+  brought calls = routes nobody (pieces [] (stream γ u calls))
+
+-- what an address takes of it: its own entries, and what goes to every fitted slot
+abbrev pub forSlot : Setup → ℕ → Delivery → List Entry
+forSlot u a (one b e) = given (eqb a b) e
+forSlot u a (all e) = given (fitted u a) e
+forSlot u a (say t) = []
+
+-- THIRD PASS: 01's share of an address
+abbrev pub shareOf : Grammar → Setup → List Call → ℕ → List Entry
+shareOf γ u calls a = flat (forSlot u a) (brought γ u calls)
+
+-- the joint share of a group: what touches it, a global line once, every other entry with the slot that it went to
+abbrev pub jointShare : Grammar → Setup → List Call → (Delivery → Bool) → List Delivery
+jointShare γ u calls touches = keep touches (brought γ u calls)

@@ -1,0 +1,129 @@
+-- The shared line and the fields: what a call hands to which supply, from its bytes, the line and the setup alone.
+use mathlib.Core.Path.{_≡_}
+use mathlib.Core.Logic.{_⊎_}
+use mathlib.Core.Bool.{Bool, true, false, not}
+use mathlib.Core.List.{List, [], _∷_, _++_}
+use Prim.Native.Nat.{ℕ, _-_, _≤_}
+use lib.Dec.{ltb, eqb}
+use lib.ListN.{length, getD, take}
+use Rattle.base.specs.Choice.{pick}
+use Rattle.wire.specs.Machine.{given}
+use Rattle.wire.specs.declared.Setup.{Setup}
+
+-- the model at an address; 255 where the slot is empty, or past the last one
+abbrev pub modelAt : Setup → ℕ → ℕ
+modelAt u a = getD (u .models) a 255
+
+-- is there a supply at the address
+abbrev pub fitted : Setup → ℕ → Bool
+fitted u a = not (eqb (modelAt u a) 255)
+
+-- 01's entry: a field's tag and payload, or a line's kept characters at its CR together with whether it is spoiled
+pub data Entry : Type 0 where
+  field : ℕ → List ℕ → Entry
+  line : List ℕ → Bool → Entry
+
+-- what the line hands out: an entry to one slot, an entry to every fitted slot, or a reply of the line's own
+pub data Delivery : Type 0 where
+  one : ℕ → Entry → Delivery
+  all : Entry → Delivery
+  say : List ℕ → Delivery
+
+-- what a line is by its characters: a well-formed ADR, with the reply that it draws from a fitted slot; one that no supply
+-- takes (an ADR in error, with its reply, or an ill-formed global, with none); a well-formed global; any other line
+pub data Class : Type 0 where
+  select : ℕ → List ℕ → Class
+  faulty : List ℕ → Class
+  global : Class
+  other : Class
+
+-- a call: the lent bytes, and the length of the reply buffer
+pub record Call : Type 0 where
+  pub bytes : List ℕ
+  pub room : ℕ
+
+-- an item of the stream: a serial byte, or an accepted field of another tag with its address
+pub data Item : Type 0 where
+  byte : ℕ → Item
+  event : ℕ → Entry → Item
+
+-- what a call comes to: the number of a refusal, or how many bytes are used and what they add to the stream
+pub data Parsed : Type 0 where
+  refuse : ℕ → Parsed
+  accept : ℕ → List Item → Parsed
+
+-- what is left open here: the class of a line (its kept characters, whether it is spoiled); the least reply buffer; and how the
+-- bytes of a call are read, given which addresses are fitted (refusals 2 to 7 in their order)
+pub record Grammar : Type 0 where
+  pub classOf : List ℕ → Bool → Class
+  pub least : ℕ
+  pub read : (ℕ → Bool) → List ℕ → Parsed
+
+-- the address that stands for nobody
+abbrev pub nobody : ℕ
+nobody = 31
+
+-- the line between two bytes: the characters kept, whether it is spoiled, and who is selected
+pub record Wire : Type 0 where
+  pub kept : List ℕ
+  pub spoiled : Bool
+  pub sel : ℕ
+
+-- the line of a fresh rack
+abbrev pub freshWire : Wire
+freshWire = record { kept = []; spoiled = false; sel = nobody }
+
+-- the line after some bytes, and what it has handed out
+pub record Sent : Type 0 where
+  pub wire : Wire
+  pub sent : List Delivery
+
+-- nothing handed out
+abbrev pub quiet : Wire → Sent
+quiet w = record { wire = w; sent = [] }
+
+-- a line ended: no character kept any more, this address selected, and what is handed out
+abbrev pub ending : ℕ → List Delivery → Sent
+ending sel ds = record { wire = record { kept = []; spoiled = false; sel = sel }; sent = ds }
+
+-- one after the other
+abbrev pub followed : Sent → Sent → Sent
+followed s t = record { wire = t .wire; sent = s .sent ++ t .sent }
+
+-- a line at its CR: ADR selects a fitted slot, which replies, and an empty one selects nobody, silently; what no supply takes
+-- draws its reply if a slot is selected; a global goes to every fitted slot; any other line to the slot selected, or it vanishes
+abbrev pub byClass : Setup → Wire → Class → Sent
+byClass u w (select a t) = ending (pick (fitted u a) a nobody) (given (fitted u a) (say t))
+byClass u w (faulty t) = ending (w .sel) (given (fitted u (w .sel)) (say t))
+byClass u w global = ending (w .sel) (all (line (w .kept) (w .spoiled)) ∷ [])
+byClass u w other = ending (w .sel) (given (fitted u (w .sel)) (one (w .sel) (line (w .kept) (w .spoiled))))
+
+module _ (γ : Grammar) (u : Setup) where
+  -- a serial byte: LF is ignored, backspace drops the last character kept, CR ends the line; a line holds 64 characters, a
+  -- further one is dropped and spoils the line
+  unfoldable pub byteOn : Wire → ℕ → Sent
+  byteOn w b =
+      pick (eqb b 10) (quiet w)
+      (pick (eqb b 8) (quiet (record { kept = take (length (w .kept) - 1) (w .kept); spoiled = w .spoiled; sel = w .sel }))
+      (pick (eqb b 13) (byClass u w (γ .classOf (w .kept) (w .spoiled)))
+      (pick (ltb (length (w .kept)) 64) (quiet (record { kept = w .kept ++ b ∷ []; spoiled = w .spoiled; sel = w .sel }))
+      (quiet (record { kept = w .kept; spoiled = true; sel = w .sel })))))
+
+  -- an item of the stream: a field of another tag leaves the line as it is
+  abbrev pub itemOn : Wire → Item → Sent
+  itemOn w (byte b) = byteOn w b
+  itemOn w (event a e) = record { wire = w; sent = one a e ∷ [] }
+
+  -- the items of a stream, each on the line that the one before it left
+  abbrev pub scan : Wire → List Item → Sent
+  scan w [] = quiet w
+  scan w (i ∷ is) = followed (itemOn w i) (scan (itemOn w i .wire) is)
+
+  -- a call, judged: the reply buffer first, then the bytes
+  unfoldable pub parse : Call → Parsed
+  parse c = pick (ltb (c .room) (γ .least)) (refuse 1) (γ .read (fitted u) (c .bytes))
+
+-- what holds of the line of every rack that calls lead to: at most 64 characters kept, nobody or a fitted slot selected
+pub record LawfulWire (u : Setup) (w : Wire) : Type 0 where
+  pub short : length (w .kept) ≤ 64
+  pub chosen : (w .sel ≡ nobody) ⊎ (fitted u (w .sel) ≡ true)
