@@ -1,6 +1,6 @@
 -- Laws of choice by a Bool: what a test that is known picks.
 use mathlib.Core.Path.{_≡_, refl}
-use mathlib.Core.Bool.{Bool, true, false}
+use mathlib.Core.Bool.{Bool, true, false, _||_, true≢false}
 use Rattle.base.specs.Choice.{pick}
 
 module _ {A : Type 0} where
@@ -14,3 +14,8 @@ module _ {A : Type 0} where
   pub pick-keeps : (P : A → Type 0) (t : Bool) (a b : A) → P a → P b → P (pick t a b)
   pick-keeps P true a b p q = p
   pick-keeps P false a b p q = q
+
+-- neither of two tests holds
+pub or-false : (a b : Bool) → (a || b) ≡ false → (a ≡ false) × (b ≡ false)
+or-false true b e = absurd (true≢false e)
+or-false false b e = (refl, e)

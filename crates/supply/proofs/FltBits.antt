@@ -9,7 +9,6 @@ use Rattle.base.specs.Bits.{bitAt}
 use Rattle.base.proofs.Bits.{bit-or, bit-and}
 use Rattle.supply.specs.declared.Supply.{Supply}
 use Rattle.supply.specs.Flt.{fltOf, onOf}
-use Rattle.supply.specs.Releases.{Trip, fold, ovp, isSet}
 
 -- bit k of FLT, from the four parts that it is made of
 flt-bit : (k : ℕ) (s : Supply) → bitAt k (fltOf s) ≡ ((((bitAt k (s .lines) && bitAt k 0xA6) || bitAt k (bit (s .«fold_trip») * 8)) || bitAt k (bit (s .«ovp_trip») * 16)) || bitAt k (bit (not (s .want)) * 64))
@@ -86,10 +85,13 @@ bit-off k s z e = byTest (eqb (fltOf s) 0) refl
     byTest false q = refl
 
 -- a trip that is set means that the output is off
-pub shut : (k : Trip) (s : Supply) → isSet k s ≡ true → onOf s ≡ false
+pub fold-shut : (s : Supply) → s .«fold_trip» ≡ true → onOf s ≡ false
 unfolding bitAt
-shut fold s e = bit-off 3 s refl (flt-bits s .fold ∙ e)
-shut ovp s e = bit-off 4 s refl (flt-bits s .ovp ∙ e)
+fold-shut s e = bit-off 3 s refl (flt-bits s .fold ∙ e)
+
+pub ovp-shut : (s : Supply) → s .«ovp_trip» ≡ true → onOf s ≡ false
+unfolding bitAt
+ovp-shut s e = bit-off 4 s refl (flt-bits s .ovp ∙ e)
 
 -- and so does WANT off
 pub want-off-shut : (s : Supply) → s .want ≡ false → onOf s ≡ false

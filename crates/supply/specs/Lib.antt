@@ -1,10 +1,3 @@
 pub mod With
 pub mod State
 pub mod Flt
-pub mod Settings
-pub mod Events
-pub mod Orders
-pub mod Acts
-pub mod Answers
-pub mod Lawful
-pub mod Releases

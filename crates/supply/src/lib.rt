@@ -1,16 +1,7 @@
-// The plain supply: its state, whatever it can be asked to do, and what comes of it. The model goes beside the state.
-mod acts;
-mod answers;
-mod events;
-mod fault;
-mod orders;
-mod settings;
-
-pub use acts::perform;
-pub use answers::answer_to;
-pub use fault::flt;
-pub use fault::is_on;
-pub use orders::fresh_supply;
+// The plain supply: its state, whatever it can be asked, and FLT. The model goes beside the state.
+ghost use mathlib.Core.Path.{_≡_};
+ghost use Rattle.supply.specs.State.{fresh};
+ghost use Rattle.supply.specs.Flt.{fltOf, onOf, linesClear, inLimit, settled};
 
 // The whole state of a supply. Figures in ticks of 0.1 mV and in mA; mode is 0 local, 1 remote, 2 locked out.
 pub struct Supply {
@@ -106,4 +97,70 @@ pub enum Answer {
     Figure(u8, u64),
     Says(Word),
     Hex(u8),
+}
+
+// The FLT byte.
+pub fn flt(s: Supply) -> u8
+    ensures { λ r. ⌜ r ≡ fltOf s ⌝ }
+{
+    (s.lines & 0xA6)
+        | ((s.fold_trip as u8) << 3)
+        | ((s.ovp_trip as u8) << 4)
+        | ((!s.want as u8) << 6)
+}
+
+// The output is on.
+pub fn is_on(s: Supply) -> bool
+    ensures { λ r. ⌜ r ≡ onOf s ⌝ }
+{
+    flt(s) == 0
+}
+
+// Nothing from the rear contacts keeps the output from being turned on.
+pub fn lines_clear(s: Supply) -> bool
+    ensures { λ r. ⌜ r ≡ linesClear s ⌝ }
+{
+    s.lines == 0
+}
+
+// The ampere reading of the stored counts is at least PC.
+pub fn in_limit(model: u8, s: Supply) -> bool
+    ensures { λ r. ⌜ r ≡ inLimit model s ⌝ }
+{
+    (s.pc as u64) <= models::amp_reading(model, s.amp_count)
+}
+
+// FEVE gains each FLT bit that rose and was enabled before.
+pub fn settle(before: Supply, after: Supply) -> Supply
+    ensures { λ r. ⌜ r ≡ settled before after ⌝ }
+{
+    let was = flt(before);
+    let is = flt(after);
+    let mut t = after;
+    t.feve = after.feve | (is & !was & before.fena);
+    t
+}
+
+// A supply as it is fitted.
+pub fn fresh_supply(model: u8) -> Supply
+    ensures { λ r. ⌜ r ≡ fresh model ⌝ }
+{
+    let l = models::limits_of(model);
+    Supply {
+        pv: 0,
+        pc: 0,
+        ovp: l.ovp_most,
+        uvl: 0,
+        want: false,
+        armed: false,
+        ast: false,
+        mode: 0,
+        lines: 0,
+        fold_trip: false,
+        ovp_trip: false,
+        fena: 0,
+        feve: 0,
+        volt_count: 0,
+        amp_count: 0,
+    }
 }

@@ -1,0 +1,210 @@
+-- Margins and limits hold of the fresh supply and are kept by whatever a supply is asked; accepted settings are the admissible ones.
+use mathlib.Core.Path.{_≡_, refl, sym, _∙_}
+use mathlib.Core.Bool.{Bool, true, false, not, _&&_, _||_}
+use Prim.Native.Nat.{ℕ, suc, _*_, _≤_}
+use native.Mathlib.Omega.{arith}
+use lib.Dec.{ltb, leb, eqb}
+use borrow.Author.Tests.{ltb-false, le-ltb, eqb-true}
+use Rattle.base.specs.Choice.{pick}
+use Rattle.base.proofs.Choice.{pick-keeps, or-false}
+use Rattle.models.specs.Models.{limitsOf, voltReading}
+use Rattle.models.proofs.Rules.{ovp-room}
+use Rattle.supply.specs.declared.Supply.{Supply}
+use Rattle.supply.specs.declared.Target.{Target}
+use Rattle.supply.specs.declared.Target.the-variants.{Pv, Pc, Ovp, Uvl}
+use Rattle.supply.specs.declared.Key.{Key}
+use Rattle.supply.specs.declared.Key.the-variants.{Output, Fold, Local}
+use Rattle.supply.specs.declared.Order.{Order}
+use Rattle.supply.specs.declared.Order.the-variants.{Set, Ovm, Out, Fld, Ast, Rmt, Fena, Cls, Rst}
+use Rattle.supply.specs.declared.Act.{Act}
+use Rattle.supply.specs.declared.Act.the-variants.{Lines, Sample, Press, Turn, Obey, Ask, Nothing}
+use Rattle.supply.specs.With.{withFeve, withWant, withArmed, withMode, withLines, withFoldTrip, withOvpTrip, withCounts}
+use Rattle.supply.specs.State.{fresh, c05, e01, e02, e04, e06}
+use Rattle.supply.specs.Flt.{onOf, linesClear, inLimit, settled}
+use Rattle.settings.specs.Settings.{withSetting, stepped}
+use Rattle.events.specs.Events.{anyRises, falls, acFallen, linesChanged, sampled, turnedOn, disarmed, pressed, turned}
+use Rattle.orders.specs.Orders.{above105, setCode, orderCode, remote, remoteBy, outDone, fldDone, reset, ordered}
+use Rattle.acts.specs.Acts.{codeOf, clearingQuery, clearingAct, cleared, acted, closed, performed}
+use Rattle.settings.specs.Lawful.{Within, Lawful, Admissible}
+use Rattle.orders.proofs.Accepted.{passed}
+use Rattle.settings.proofs.Knob.{stepped-nearest}
+
+pub fresh-lawful : (m : ℕ) → Lawful m (fresh m)
+unfolding fresh
+fresh-lawful m =
+    record {
+      uvl-margin = omega arith;
+      ovp-margin = omega arith;
+      pv-limit = omega arith;
+      pc-limit = omega arith;
+      ovp-least = ovp-room m;
+      ovp-most = omega arith;
+      uvl-most = omega arith;
+    }
+
+module _ (m : ℕ) (s : Supply) (h : Lawful m s) where
+  -- an accepted figure is admissible
+  pub accepted-admissible : (t : Target) (n : ℕ) → setCode m s t n ≡ 0 → Admissible m s t n
+  unfolding setCode withSetting
+  accepted-admissible Pv n e =
+      let a = passed (above105 (limitsOf m .volts) n) 196 _ e in
+      let b = passed (ltb (20 * s .ovp) (21 * n)) 224 _ (a .1) in
+      let c = passed (ltb (19 * n) (20 * s .uvl)) 225 _ (b .1) in
+      record {
+        uvl-margin = ltb-false _ _ (c .0);
+        ovp-margin = ltb-false _ _ (b .0);
+        pv-limit = ltb-false _ _ (a .0);
+        pc-limit = h .pc-limit;
+        ovp-least = h .ovp-least;
+        ovp-most = h .ovp-most;
+        uvl-most = h .uvl-most;
+      }
+  accepted-admissible Pc n e =
+      let a = passed (above105 (limitsOf m .amps) n) 196 _ e in
+      record {
+        uvl-margin = h .uvl-margin;
+        ovp-margin = h .ovp-margin;
+        pv-limit = h .pv-limit;
+        pc-limit = ltb-false _ _ (a .0);
+        ovp-least = h .ovp-least;
+        ovp-most = h .ovp-most;
+        uvl-most = h .uvl-most;
+      }
+  accepted-admissible Ovp n e =
+      let a = passed (ltb n (limitsOf m .«ovp_least») || ltb (limitsOf m .«ovp_most») n) 196 _ e in
+      let b = passed (ltb (20 * n) (21 * s .pv)) 227 _ (a .1) in
+      let o = or-false (ltb n (limitsOf m .«ovp_least»)) (ltb (limitsOf m .«ovp_most») n) (a .0) in
+      record {
+        uvl-margin = h .uvl-margin;
+        ovp-margin = ltb-false _ _ (b .0);
+        pv-limit = h .pv-limit;
+        pc-limit = h .pc-limit;
+        ovp-least = ltb-false _ _ (o .0);
+        ovp-most = ltb-false _ _ (o .1);
+        uvl-most = h .uvl-most;
+      }
+  accepted-admissible Uvl n e =
+      let a = passed (ltb (limitsOf m .«uvl_most») n) 196 _ e in
+      let b = passed (ltb (19 * s .pv) (20 * n)) 229 _ (a .1) in
+      record {
+        uvl-margin = ltb-false _ _ (b .0);
+        ovp-margin = h .ovp-margin;
+        pv-limit = h .pv-limit;
+        pc-limit = h .pc-limit;
+        ovp-least = h .ovp-least;
+        ovp-most = h .ovp-most;
+        uvl-most = ltb-false _ _ (a .0);
+      }
+
+-- and an admissible one is accepted
+pub admissible-accepted : (m : ℕ) (s : Supply) (t : Target) (n : ℕ) → Admissible m s t n → setCode m s t n ≡ 0
+unfolding setCode withSetting
+admissible-accepted m s Pv n a = rw (le-ltb _ _ (a .pv-limit), le-ltb _ _ (a .ovp-margin), le-ltb _ _ (a .uvl-margin)) refl
+admissible-accepted m s Pc n a = rw (le-ltb _ _ (a .pc-limit)) refl
+admissible-accepted m s Ovp n a = rw (le-ltb _ _ (a .ovp-least), le-ltb _ _ (a .ovp-most), le-ltb _ _ (a .ovp-margin)) refl
+admissible-accepted m s Uvl n a = rw (le-ltb _ _ (a .uvl-most), le-ltb _ _ (a .uvl-margin)) refl
+
+module _ (m : ℕ) where
+  abbrev K : (t : Bool) (a b : Supply) → Lawful m a → Lawful m b → Lawful m (pick t a b)
+  K = pick-keeps (Lawful m)
+
+  lines-keeps : (s : Supply) (b : ℕ) → Lawful m s → Lawful m (linesChanged s b)
+  unfolding linesChanged
+  lines-keeps s b h =
+      let dropped = pick (anyRises (s .lines) b && not (s .ast)) (withWant false s) s in
+      let d : Lawful m dropped = K (anyRises (s .lines) b && not (s .ast)) (withWant false s) s h h in
+      let freed = pick (falls 1 (s .lines) b) (acFallen dropped) dropped in
+      let f : Lawful m freed = K (falls 1 (s .lines) b) (acFallen dropped) dropped d d in
+      K (falls 5 (s .lines) b && s .ast) (withOvpTrip false freed) freed f f
+
+  sample-keeps : (s : Supply) (v a : ℕ) → Lawful m s → Lawful m (sampled m s v a)
+  unfolding sampled
+  sample-keeps s v a h =
+      let t = withCounts v a s in
+      K (onOf s) (pick (leb (s .ovp) (voltReading m v)) (withOvpTrip true t) (pick (s .armed && inLimit m t) (withFoldTrip true t) t)) t
+      (K (leb (s .ovp) (voltReading m v)) (withOvpTrip true t) (pick (s .armed && inLimit m t) (withFoldTrip true t) t) h
+      (K (s .armed && inLimit m t) (withFoldTrip true t) t h h))
+      h
+
+  disarm-keeps : (s : Supply) → Lawful m s → Lawful m (disarmed s)
+  unfolding disarmed
+  disarm-keeps s h = K (s .«fold_trip») (withFoldTrip false (withWant false s)) s h h
+
+  turn-on-keeps : (s : Supply) → Lawful m s → Lawful m (turnedOn s)
+  unfolding turnedOn
+  turn-on-keeps s h = h
+
+  key-keeps : (s : Supply) (k : Key) → Lawful m s → Lawful m (pressed s k)
+  unfolding pressed
+  key-keeps s Output h =
+      K (eqb (s .mode) 0) (pick (onOf s) (withWant false s) (pick (linesClear s) (turnedOn s) s)) s
+      (K (onOf s) (withWant false s) (pick (linesClear s) (turnedOn s) s) h (K (linesClear s) (turnedOn s) s (turn-on-keeps s h) h))
+      h
+  key-keeps s Fold h = K (eqb (s .mode) 0) (pick (s .armed) (disarmed s) (withArmed true s)) s (K (s .armed) (disarmed s) (withArmed true s) (disarm-keeps s h) h) h
+  key-keeps s Local h = K (eqb (s .mode) 1) (withMode 0 s) s h h
+
+  -- ONE LAW FOR THE KNOBS
+  pub knob-keeps : (s : Supply) (t : Target) (raw : ℕ) → Lawful m s → Lawful m (turned m s t raw)
+  unfolding turned
+  knob-keeps s t raw h = K (eqb (s .mode) 0) (withSetting t (stepped m s t raw) s) s (stepped-nearest m s t raw h .admissible) h
+
+  remote-keeps : (s : Supply) → Lawful m s → Lawful m (remote s)
+  unfolding remote
+  remote-keeps s h = h
+
+  remote-by-keeps : (t : Target) (s : Supply) → Lawful m s → Lawful m (remoteBy t s)
+  unfolding remoteBy
+  remote-by-keeps Pv s h = remote-keeps s h
+  remote-by-keeps Pc s h = remote-keeps s h
+  remote-by-keeps Ovp s h = h
+  remote-by-keeps Uvl s h = h
+
+  -- ONE LAW FOR ALL ORDERS, each accepted
+  pub order-keeps : (s : Supply) (o : Order) → orderCode m s o ≡ 0 → Lawful m s → Lawful m (ordered m s o)
+  unfolding ordered orderCode outDone fldDone reset
+  order-keeps s (Set t n) e h = remote-by-keeps t (withSetting t n s) (accepted-admissible m s h t n e)
+  order-keeps s Ovm e h =
+      record {
+        uvl-margin = h .uvl-margin;
+        ovp-margin = omega (arith, h .ovp-margin, h .ovp-most);
+        pv-limit = h .pv-limit;
+        pc-limit = h .pc-limit;
+        ovp-least = ovp-room m;
+        ovp-most = omega arith;
+        uvl-most = h .uvl-most;
+      }
+  order-keeps s (Out true) e h = remote-keeps (turnedOn s) (turn-on-keeps s h)
+  order-keeps s (Out false) e h = remote-keeps (withWant false s) h
+  order-keeps s (Fld true) e h = h
+  order-keeps s (Fld false) e h = K (s .armed) (disarmed s) s (disarm-keeps s h) h
+  order-keeps s (Ast b) e h = h
+  order-keeps s (Rmt k) e h = h
+  order-keeps s (Fena b) e h = h
+  order-keeps s Cls e h = h
+  order-keeps s Rst e h = fresh-lawful m
+
+  cleared-keeps : (t : Bool) (s : Supply) → Lawful m s → Lawful m (cleared t s)
+  cleared-keeps t s h = K t (withFeve 0 s) s h h
+
+  act-keeps : (s : Supply) (a : Act) → codeOf m s a ≡ 0 → Lawful m s → Lawful m (acted m s a)
+  unfolding acted codeOf
+  act-keeps s (Lines b) e h = lines-keeps s b h
+  act-keeps s (Sample v a) e h = sample-keeps s v a h
+  act-keeps s (Press k) e h = key-keeps s k h
+  act-keeps s (Turn t raw) e h = knob-keeps s t raw h
+  act-keeps s (Obey o) e h = order-keeps s o e h
+  act-keeps s (Ask q) e h = cleared-keeps (clearingQuery q) s h
+  act-keeps s Nothing e h = h
+
+  settled-keeps : (s t : Supply) → Lawful m t → Lawful m (settled s t)
+  unfolding settled
+  settled-keeps s t h = h
+
+  -- WHATEVER A SUPPLY IS ASKED keeps margins and limits
+  pub performed-lawful : (s : Supply) (a : Act) → Lawful m s → Lawful m (performed m s a)
+  unfolding performed
+  performed-lawful s a h = byCode (eqb (codeOf m s a) 0) refl
+    where
+      byCode : (t : Bool) → eqb (codeOf m s a) 0 ≡ t → Lawful m (pick t (closed a (settled s (acted m s a))) s)
+      byCode true e = cleared-keeps (clearingAct a) (settled s (acted m s a)) (settled-keeps s (acted m s a) (act-keeps s a (eqb-true (codeOf m s a) 0 e) h))
+      byCode false e = h

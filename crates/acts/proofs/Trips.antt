@@ -1,0 +1,269 @@
+-- Only a named release takes a trip away, each named release does, and a sample alone sets one.
+use mathlib.Core.Path.{_≡_, refl, sym, ap, _∙_}
+use mathlib.Core.Bool.{Bool, true, false, not, _&&_, _||_, false≢true, true≢false}
+use Prim.Native.Nat.{ℕ}
+use lib.Dec.{leb, eqb}
+use borrow.Author.Tests.{eqb-true, eq-eqb}
+use Rattle.base.specs.Choice.{pick}
+use Rattle.base.proofs.Choice.{pick-true}
+use Rattle.models.specs.Models.{voltReading}
+use Rattle.supply.specs.declared.Supply.{Supply}
+use Rattle.supply.specs.declared.Key.{Key}
+use Rattle.supply.specs.declared.Key.the-variants.{Output, Fold, Local}
+use Rattle.supply.specs.declared.Target.{Target}
+use Rattle.supply.specs.declared.Target.the-variants.{Pv, Pc, Ovp, Uvl}
+use Rattle.supply.specs.declared.Order.{Order}
+use Rattle.supply.specs.declared.Order.the-variants.{Set, Ovm, Out, Fld, Ast, Rmt, Fena, Cls, Rst}
+use Rattle.supply.specs.declared.Act.{Act}
+use Rattle.supply.specs.declared.Act.the-variants.{Lines, Sample, Press, Turn, Obey, Ask, Nothing}
+use Rattle.supply.specs.With.{withWant, withArmed, withMode, withCounts}
+use Rattle.supply.specs.State.{fresh}
+use Rattle.supply.specs.Flt.{onOf, linesClear, inLimit, settled}
+use Rattle.settings.specs.Settings.{withSetting, stepped}
+use Rattle.events.specs.Events.{falls, linesChanged, sampled, turnedOn, disarmed, pressed, turned}
+use Rattle.orders.specs.Orders.{setCode, orderCode, remote, remoteBy, outDone, fldDone, reset, ordered}
+use Rattle.acts.specs.Acts.{codeOf, clearingQuery, clearingOrder, clearingAct, cleared, acted, closed, performed}
+use Rattle.acts.specs.Releases.{Trip, fold, ovp, isSet, onlyOvp, orderReleases, keyReleases, releases}
+use Rattle.events.proofs.Cases.{lines-law, sample-law, disarm-law}
+use Rattle.supply.proofs.FltBits.{want-off-shut, fold-shut, ovp-shut}
+
+-- a trip that is set means that the output is off
+pub shut : (k : Trip) (s : Supply) → isSet k s ≡ true → onOf s ≡ false
+shut fold s e = fold-shut s e
+shut ovp s e = ovp-shut s e
+
+-- the acts that set a trip: a sample, judged on the supply before it
+abbrev pub sets : ℕ → Trip → Supply → Act → Bool
+sets m ovp s (Sample v a) = onOf s && leb (s .ovp) (voltReading m v)
+sets m fold s (Sample v a) = (onOf s && not (leb (s .ovp) (voltReading m v))) && (s .armed && inLimit m (withCounts v a s))
+sets m k s (Lines b) = false
+sets m k s (Press j) = false
+sets m k s (Turn t raw) = false
+sets m k s (Obey o) = false
+sets m k s (Ask q) = false
+sets m k s Nothing = false
+
+-- what is left of a trip x after an act that releases it or not
+abbrev left : Bool → Bool → Bool
+left release x = not release && x
+
+pick-trip : (k : Trip) (t : Bool) (a b : Supply) → isSet k (pick t a b) ≡ pick t (isSet k a) (isSet k b)
+pick-trip k true a b = refl
+pick-trip k false a b = refl
+
+-- what leaves both trips alone
+module _ (k : Trip) where
+  abbrev Same : Supply → Supply → Type 0
+  Same t s = isSet k t ≡ isSet k s
+
+by-trip : (P : Trip → Type 0) → P fold → P ovp → (k : Trip) → P k
+by-trip P f o fold = f
+by-trip P f o ovp = o
+
+want-same : (k : Trip) (b : Bool) (s : Supply) → Same k (withWant b s) s
+want-same k b s = by-trip (λ j. Same j (withWant b s) s) refl refl k
+
+armed-same : (k : Trip) (b : Bool) (s : Supply) → Same k (withArmed b s) s
+armed-same k b s = by-trip (λ j. Same j (withArmed b s) s) refl refl k
+
+mode-same : (k : Trip) (n : ℕ) (s : Supply) → Same k (withMode n s) s
+mode-same k n s = by-trip (λ j. Same j (withMode n s) s) refl refl k
+
+setting-same : (k : Trip) (t : Target) (x : ℕ) (s : Supply) → Same k (withSetting t x s) s
+unfolding withSetting
+setting-same k Pv x s = by-trip (λ j. Same j (withSetting Pv x s) s) refl refl k
+setting-same k Pc x s = by-trip (λ j. Same j (withSetting Pc x s) s) refl refl k
+setting-same k Ovp x s = by-trip (λ j. Same j (withSetting Ovp x s) s) refl refl k
+setting-same k Uvl x s = by-trip (λ j. Same j (withSetting Uvl x s) s) refl refl k
+
+remote-same : (k : Trip) (s : Supply) → Same k (remote s) s
+unfolding remote
+remote-same k s = by-trip (λ j. Same j (remote s) s) refl refl k
+
+remote-by-same : (k : Trip) (t : Target) (s : Supply) → Same k (remoteBy t s) s
+unfolding remoteBy
+remote-by-same k Pv s = remote-same k s
+remote-by-same k Pc s = remote-same k s
+remote-by-same k Ovp s = refl
+remote-by-same k Uvl s = refl
+
+settled-same : (k : Trip) (s t : Supply) → Same k (settled s t) t
+unfolding settled
+settled-same k s t = by-trip (λ j. Same j (settled s t) t) refl refl k
+
+cleared-same : (k : Trip) (t : Bool) (s : Supply) → Same k (cleared t s) s
+cleared-same k true s = by-trip (λ j. Same j (cleared true s) s) refl refl k
+cleared-same k false s = refl
+
+-- turning on clears both; ARMED going off clears FOLD and leaves OVP
+turned-on-clear : (k : Trip) (s : Supply) → isSet k (turnedOn s) ≡ false
+unfolding turnedOn
+turned-on-clear fold s = refl
+turned-on-clear ovp s = refl
+
+reset-clear : (m : ℕ) (k : Trip) (s : Supply) → isSet k (reset m s) ≡ false
+unfolding reset fresh
+reset-clear m fold s = refl
+reset-clear m ovp s = refl
+
+disarmed-trip : (k : Trip) (s : Supply) → isSet k (disarmed s) ≡ (onlyOvp k && isSet k s)
+disarmed-trip fold s = rw (← disarm-law s) refl
+disarmed-trip ovp s = rw (← disarm-law s) refl
+
+-- the choices of an event, a key or an order, as what they leave of a trip
+abbrev linesLeave : Trip → Bool → Bool → Bool → Bool
+linesLeave fold ac so x = not ac && x
+linesLeave ovp ac so x = not so && (not ac && x)
+
+lines-left : (k : Trip) (ac so x : Bool) → linesLeave k ac so x ≡ left (ac || (onlyOvp k && so)) x
+lines-left fold true so x = refl
+lines-left fold false so x = refl
+lines-left ovp true true x = refl
+lines-left ovp true false x = refl
+lines-left ovp false true x = refl
+lines-left ovp false false x = refl
+
+output-left : (home on clear x : Bool) → pick home (pick on x (pick clear false x)) x ≡ left (home && (not on && clear)) x
+output-left true true clear x = refl
+output-left true false true x = refl
+output-left true false false x = refl
+output-left false on clear x = refl
+
+fold-left : (k : Trip) (home armed x : Bool) → pick home (pick armed (onlyOvp k && x) x) x ≡ left (not (onlyOvp k) && (home && armed)) x
+fold-left fold true true x = refl
+fold-left fold true false x = refl
+fold-left fold false armed x = refl
+fold-left ovp true true x = refl
+fold-left ovp true false x = refl
+fold-left ovp false armed x = refl
+
+same-pick : (t x : Bool) → pick t x x ≡ x
+same-pick true x = refl
+same-pick false x = refl
+
+or-none : (x : Bool) → (x || false) ≡ x
+or-none true = refl
+or-none false = refl
+
+or-swap : (x y : Bool) → (x || y) ≡ (y || x)
+or-swap true true = refl
+or-swap true false = refl
+or-swap false true = refl
+or-swap false false = refl
+
+module _ (m : ℕ) (k : Trip) (s : Supply) where
+  lines-trip : (b : ℕ) → isSet k (linesChanged s b) ≡ left (releases m k s (Lines b)) (isSet k s)
+  unfolding releases
+  lines-trip b = by-trip (λ j. isSet j (linesChanged s b) ≡ left (falls 1 (s .lines) b || (onlyOvp j && (falls 5 (s .lines) b && s .ast))) (isSet j s))
+      (rw (← lines-law s b) (lines-left fold (falls 1 (s .lines) b) (falls 5 (s .lines) b && s .ast) (s .«fold_trip»)))
+      (rw (← lines-law s b) (lines-left ovp (falls 1 (s .lines) b) (falls 5 (s .lines) b && s .ast) (s .«ovp_trip»)))
+      k
+
+  sample-trip : (v a : ℕ) → isSet k (sampled m s v a) ≡ (isSet k s || sets m k s (Sample v a))
+  sample-trip v a = by-trip (λ j. isSet j (sampled m s v a) ≡ (isSet j s || sets m j s (Sample v a)))
+      (rw (← sample-law m s v a) (or-swap (sets m fold s (Sample v a)) (s .«fold_trip»)))
+      (rw (← sample-law m s v a) (or-swap (sets m ovp s (Sample v a)) (s .«ovp_trip»)))
+      k
+
+  key-trip : (j : Key) → isSet k (pressed s j) ≡ left (keyReleases k s j) (isSet k s)
+  unfolding pressed
+  key-trip Output =
+      rw (pick-trip k (eqb (s .mode) 0) (pick (onOf s) (withWant false s) (pick (linesClear s) (turnedOn s) s)) s, pick-trip k (onOf s) (withWant false s) (pick (linesClear s) (turnedOn s) s), pick-trip k (linesClear s) (turnedOn s) s, want-same k false s, turned-on-clear k s)
+      (output-left (eqb (s .mode) 0) (onOf s) (linesClear s) (isSet k s))
+  key-trip Fold =
+      rw (pick-trip k (eqb (s .mode) 0) (pick (s .armed) (disarmed s) (withArmed true s)) s, pick-trip k (s .armed) (disarmed s) (withArmed true s), disarmed-trip k s, armed-same k true s)
+      (fold-left k (eqb (s .mode) 0) (s .armed) (isSet k s))
+  key-trip Local = rw (pick-trip k (eqb (s .mode) 1) (withMode 0 s) s, mode-same k 0 s) (same-pick (eqb (s .mode) 1) (isSet k s))
+
+  knob-trip : (t : Target) (raw : ℕ) → isSet k (turned m s t raw) ≡ isSet k s
+  unfolding turned
+  knob-trip t raw = rw (pick-trip k (eqb (s .mode) 0) (withSetting t (stepped m s t raw) s) s, setting-same k t (stepped m s t raw) s) (same-pick (eqb (s .mode) 0) (isSet k s))
+
+  order-trip : (o : Order) → orderCode m s o ≡ 0 → isSet k (ordered m s o) ≡ left (orderReleases m k s o) (isSet k s)
+  unfolding ordered outDone fldDone
+  order-trip (Set t n) e = remote-by-same k t (withSetting t n s) ∙ setting-same k t n s
+  order-trip Ovm e = by-trip (λ j. isSet j (ordered m s Ovm) ≡ isSet j s) refl refl k
+  order-trip (Out true) e = remote-same k (turnedOn s) ∙ turned-on-clear k s ∙ rw e refl
+  order-trip (Out false) e = remote-same k (withWant false s) ∙ want-same k false s
+  order-trip (Fld true) e = armed-same k true s
+  order-trip (Fld false) e = rw (pick-trip k (s .armed) (disarmed s) s, disarmed-trip k s) (fold-left k true (s .armed) (isSet k s))
+  order-trip (Ast b) e = by-trip (λ j. isSet j (ordered m s (Ast b)) ≡ isSet j s) refl refl k
+  order-trip (Rmt j) e = mode-same k j s
+  order-trip (Fena b) e = by-trip (λ j. isSet j (ordered m s (Fena b)) ≡ isSet j s) refl refl k
+  order-trip Cls e = refl
+  order-trip Rst e = reset-clear m k s
+
+  -- an accepted act leaves of a trip what it does not release, and a sample may set it
+  acted-trip : (a : Act) → codeOf m s a ≡ 0 → isSet k (acted m s a) ≡ (left (releases m k s a) (isSet k s) || sets m k s a)
+  unfolding acted releases codeOf
+  acted-trip (Lines b) e = lines-trip b ∙ sym (or-none _)
+  acted-trip (Sample v a) e = sample-trip v a
+  acted-trip (Press j) e = key-trip j ∙ sym (or-none _)
+  acted-trip (Turn t raw) e = knob-trip t raw ∙ sym (or-none _)
+  acted-trip (Obey o) e = order-trip o e ∙ sym (or-none _)
+  acted-trip (Ask q) e = cleared-same k (clearingQuery q) s ∙ sym (or-none _)
+  acted-trip Nothing e = sym (or-none _)
+
+  -- a refused order releases nothing and sets nothing
+  refused-idle : (a : Act) → eqb (codeOf m s a) 0 ≡ false → (releases m k s a ≡ false) × (sets m k s a ≡ false)
+  unfolding releases codeOf orderCode
+  refused-idle (Obey (Set t n)) e = (refl, refl)
+  refused-idle (Obey (Out true)) e = (e, refl)
+  refused-idle (Obey (Out false)) e = absurd (true≢false e)
+  refused-idle (Obey Ovm) e = absurd (true≢false e)
+  refused-idle (Obey (Fld b)) e = absurd (true≢false e)
+  refused-idle (Obey (Ast b)) e = absurd (true≢false e)
+  refused-idle (Obey (Rmt j)) e = absurd (true≢false e)
+  refused-idle (Obey (Fena b)) e = absurd (true≢false e)
+  refused-idle (Obey Cls) e = absurd (true≢false e)
+  refused-idle (Obey Rst) e = absurd (true≢false e)
+  refused-idle (Lines b) e = absurd (true≢false e)
+  refused-idle (Sample v a) e = absurd (true≢false e)
+  refused-idle (Press j) e = absurd (true≢false e)
+  refused-idle (Turn t raw) e = absurd (true≢false e)
+  refused-idle (Ask q) e = absurd (true≢false e)
+  refused-idle Nothing e = absurd (true≢false e)
+
+  -- THE TRIP AFTER AN ACT: what was set and is not released, or what a sample sets
+  pub trip-law : (a : Act) → isSet k (performed m s a) ≡ (left (releases m k s a) (isSet k s) || sets m k s a)
+  unfolding performed
+  trip-law a = byCode (eqb (codeOf m s a) 0) refl
+    where
+      byCode : (t : Bool) → eqb (codeOf m s a) 0 ≡ t → isSet k (pick t (closed a (settled s (acted m s a))) s) ≡ (left (releases m k s a) (isSet k s) || sets m k s a)
+      byCode true e = cleared-same k (clearingAct a) (settled s (acted m s a)) ∙ settled-same k s (acted m s a) ∙ acted-trip a (eqb-true (codeOf m s a) 0 e)
+      byCode false e = let i = refused-idle a e in rw (i .0, i .1) (sym (or-none _))
+
+  -- only a release takes a trip away
+  pub held : (a : Act) → isSet k s ≡ true → releases m k s a ≡ false → isSet k (performed m s a) ≡ true
+  held a e r = trip-law a ∙ rw (r, e) refl
+
+  -- no release sets a trip
+  release-idle : (a : Act) → releases m k s a ≡ true → sets m k s a ≡ false
+  unfolding releases
+  release-idle (Sample v a) r = absurd (false≢true r)
+  release-idle (Lines b) r = refl
+  release-idle (Press j) r = refl
+  release-idle (Turn t raw) r = refl
+  release-idle (Obey o) r = refl
+  release-idle (Ask q) r = refl
+  release-idle Nothing r = refl
+
+  -- each named release clears the trip
+  pub frees : (a : Act) → releases m k s a ≡ true → isSet k (performed m s a) ≡ false
+  frees a r = trip-law a ∙ rw (r, release-idle a r) refl
+
+-- RST, and ARMED going off on a FOLD trip, leave the output off
+pub reset-off : (m : ℕ) (s : Supply) → onOf (performed m s (Obey Rst)) ≡ false
+unfolding performed codeOf orderCode clearingAct clearingOrder settled acted ordered reset fresh
+reset-off m s = want-off-shut (performed m s (Obey Rst)) refl
+
+disarmed-off : (s : Supply) → s .«fold_trip» ≡ true → disarmed s .want ≡ false
+disarmed-off s e = rw (← disarm-law s, e) refl
+
+pub fld-off : (m : ℕ) (s : Supply) → s .armed ≡ true → s .«fold_trip» ≡ true → onOf (performed m s (Obey (Fld false))) ≡ false
+unfolding performed codeOf orderCode clearingAct clearingOrder settled acted ordered fldDone
+fld-off m s a e = want-off-shut (performed m s (Obey (Fld false))) (ap (λ (x : Supply). x .want) (pick-true (s .armed) (disarmed s) s a) ∙ disarmed-off s e)
+
+pub fold-key-off : (m : ℕ) (s : Supply) → s .mode ≡ 0 → s .armed ≡ true → s .«fold_trip» ≡ true → onOf (performed m s (Press Fold)) ≡ false
+unfolding performed codeOf clearingAct settled acted pressed
+fold-key-off m s z a e = want-off-shut (performed m s (Press Fold)) (ap (λ (x : Supply). x .want) (pick-true (eqb (s .mode) 0) (pick (s .armed) (disarmed s) (withArmed true s)) s (eq-eqb (s .mode) 0 z) ∙ pick-true (s .armed) (disarmed s) (withArmed true s) a) ∙ disarmed-off s e)

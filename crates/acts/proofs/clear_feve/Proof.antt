@@ -1,0 +1,19 @@
+-- `clear_feve` meets its contract.
+use Rattle.base.proofs.Choice.{pick-true, pick-false}
+use mathlib.Core.Path.{sym, _∙_}
+use borrow.Author.Needs.{needs}
+use Rattle.acts.proofs.clear_feve.Statement.{statement}
+use Rattle.acts.proofs.clear_feve.Tie as tie
+use Rattle.acts.proofs.clear_feve.Reads as reads
+use Rattle.acts.proofs.clear_feve.Lts as lts
+
+-- src/lib.rt:14:1
+returns : tie.Need-returns
+returns c = sym (pick-true _ _ _ (c .if1 .taken))
+
+-- src/lib.rt:14:1
+returns-2 : tie.Need-returns-2
+returns-2 c = sym (pick-false _ _ _ (c .if1 .left))
+
+pub clear-feve-spec : {M : Type 1} → statement M
+clear-feve-spec = tie.close (tie.spec returns returns-2)

@@ -1,0 +1,56 @@
+-- The two trips, and the releases of each as the paper lists them.
+use Prim.Native.Nat.{ℕ}
+use mathlib.Core.Bool.{Bool, true, false, not, _&&_, _||_}
+use lib.Dec.{eqb}
+use Rattle.supply.specs.declared.Supply.{Supply}
+use Rattle.supply.specs.declared.Key.{Key}
+use Rattle.supply.specs.declared.Key.the-variants as key
+use Rattle.supply.specs.declared.Order.{Order}
+use Rattle.supply.specs.declared.Order.the-variants.{Set, Ovm, Out, Fld, Ast, Rmt, Fena, Cls, Rst}
+use Rattle.supply.specs.declared.Act.{Act}
+use Rattle.supply.specs.declared.Act.the-variants.{Lines, Sample, Press, Turn, Obey, Ask, Nothing}
+use Rattle.supply.specs.Flt.{onOf, linesClear}
+use Rattle.events.specs.Events.{falls}
+use Rattle.orders.specs.Orders.{orderCode}
+
+pub data Trip : Type 0 where
+  fold ovp : Trip
+
+abbrev pub isSet : Trip → Supply → Bool
+isSet fold s = s .«fold_trip»
+isSet ovp s = s .«ovp_trip»
+
+-- is the trip the one that only this release takes
+abbrev pub onlyOvp : Trip → Bool
+onlyOvp fold = false
+onlyOvp ovp = true
+
+-- accepted OUT 1; RST; and for FOLD, ARMED going off
+abbrev pub orderReleases : ℕ → Trip → Supply → Order → Bool
+orderReleases m k s (Out true) = eqb (orderCode m s (Out true)) 0
+orderReleases m k s Rst = true
+orderReleases m k s (Fld false) = not (onlyOvp k) && s .armed
+orderReleases m k s (Out false) = false
+orderReleases m k s (Fld true) = false
+orderReleases m k s (Set t n) = false
+orderReleases m k s Ovm = false
+orderReleases m k s (Ast b) = false
+orderReleases m k s (Rmt j) = false
+orderReleases m k s (Fena b) = false
+orderReleases m k s Cls = false
+
+-- the OUTPUT key that turns on; and for FOLD, the FOLD key that turns ARMED off
+abbrev pub keyReleases : Trip → Supply → Key → Bool
+keyReleases k s key.Output = eqb (s .mode) 0 && (not (onOf s) && linesClear s)
+keyReleases k s key.Fold = not (onlyOvp k) && (eqb (s .mode) 0 && s .armed)
+keyReleases k s key.Local = false
+
+-- is the act, on this supply, a release of the trip; AC falling, and for OVP, SO falling under AST, come by LINES
+unfoldable pub releases : ℕ → Trip → Supply → Act → Bool
+releases m k s (Lines b) = falls 1 (s .lines) b || (onlyOvp k && (falls 5 (s .lines) b && s .ast))
+releases m k s (Press j) = keyReleases k s j
+releases m k s (Obey o) = orderReleases m k s o
+releases m k s (Sample v a) = false
+releases m k s (Turn t raw) = false
+releases m k s (Ask q) = false
+releases m k s Nothing = false

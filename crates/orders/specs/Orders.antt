@@ -1,0 +1,86 @@
+-- The order lines: the checks of each in turn, and what an accepted one does.
+use Prim.Native.Nat.{ℕ, _*_}
+use mathlib.Core.Bool.{Bool, true, false, _||_}
+use lib.Dec.{ltb, eqb}
+use Rattle.base.specs.Choice.{pick}
+use Rattle.models.specs.Models.{limitsOf}
+use Rattle.supply.specs.declared.Supply.{Supply}
+use Rattle.supply.specs.declared.Target.{Target}
+use Rattle.supply.specs.declared.Target.the-variants.{Pv, Pc, Ovp, Uvl}
+use Rattle.supply.specs.declared.Order.{Order}
+use Rattle.supply.specs.declared.Order.the-variants.{Set, Ovm, Out, Fld, Ast, Rmt, Fena, Cls, Rst}
+use Rattle.supply.specs.With.{withOvp, withWant, withArmed, withAst, withMode, withLines, withFena, withCounts}
+use Rattle.supply.specs.State.{fresh, c05, e01, e02, e04, e06, e07}
+use Rattle.supply.specs.Flt.{linesClear}
+use Rattle.settings.specs.Settings.{withSetting}
+use Rattle.events.specs.Events.{turnedOn, disarmed}
+
+-- more than 105 % of a rating
+abbrev pub above105 : ℕ → ℕ → Bool
+above105 rating n = ltb (21 * rating) (20 * n)
+
+-- PV n, PC n, OVP n and UVL n: the first check that fails gives the code, 0 if none does
+unfoldable pub setCode : ℕ → Supply → Target → ℕ → ℕ
+setCode m s Pv n =
+    pick (above105 (limitsOf m .volts) n) c05
+    (pick (ltb (20 * s .ovp) (21 * n)) e01
+    (pick (ltb (19 * n) (20 * s .uvl)) e02 0))
+setCode m s Pc n = pick (above105 (limitsOf m .amps) n) c05 0
+setCode m s Ovp n =
+    pick (ltb n (limitsOf m .«ovp_least») || ltb (limitsOf m .«ovp_most») n) c05
+    (pick (ltb (20 * n) (21 * s .pv)) e04 0)
+setCode m s Uvl n =
+    pick (ltb (limitsOf m .«uvl_most») n) c05
+    (pick (ltb (19 * s .pv) (20 * n)) e06 0)
+
+-- OUT 1 is E07 where LINES is not 0, OUT 0 has no check
+abbrev pub outCode : Bool → Bool → ℕ
+outCode true clear = pick clear 0 e07
+outCode false clear = 0
+
+unfoldable pub orderCode : ℕ → Supply → Order → ℕ
+orderCode m s (Set t n) = setCode m s t n
+orderCode m s Ovm = 0
+orderCode m s (Out b) = outCode b (linesClear s)
+orderCode m s (Fld b) = 0
+orderCode m s (Ast b) = 0
+orderCode m s (Rmt k) = 0
+orderCode m s (Fena b) = 0
+orderCode m s Cls = 0
+orderCode m s Rst = 0
+
+-- an accepted PV, PC or OUT turns MODE 0 into 1
+unfoldable pub remote : Supply → Supply
+remote s = withMode (pick (eqb (s .mode) 0) 1 (s .mode)) s
+
+unfoldable pub remoteBy : Target → Supply → Supply
+remoteBy Pv s = remote s
+remoteBy Pc s = remote s
+remoteBy Ovp s = s
+remoteBy Uvl s = s
+
+-- OUT 1 turns on, OUT 0 turns WANT off and keeps the trips
+unfoldable pub outDone : Bool → Supply → Supply
+outDone true s = remote (turnedOn s)
+outDone false s = remote (withWant false s)
+
+-- FLD 1 arms, FLD 0 is as the FOLD key that turns ARMED off
+unfoldable pub fldDone : Bool → Supply → Supply
+fldDone true s = withArmed true s
+fldDone false s = pick (s .armed) (disarmed s) s
+
+-- RST: fresh, but LINES, FENA and counts stay, and MODE is 1
+unfoldable pub reset : ℕ → Supply → Supply
+reset m s = withLines (s .lines) (withFena (s .fena) (withCounts (s .«volt_count») (s .«amp_count») (withMode 1 (fresh m))))
+
+-- what an accepted order does; CLS acts as the event closes
+unfoldable pub ordered : ℕ → Supply → Order → Supply
+ordered m s (Set t n) = remoteBy t (withSetting t n s)
+ordered m s Ovm = withOvp (limitsOf m .«ovp_most») s
+ordered m s (Out b) = outDone b s
+ordered m s (Fld b) = fldDone b s
+ordered m s (Ast b) = withAst b s
+ordered m s (Rmt k) = withMode k s
+ordered m s (Fena b) = withFena b s
+ordered m s Cls = s
+ordered m s Rst = reset m s

@@ -1,0 +1,45 @@
+-- `stepped_setting` meets its contract.
+use native.Mathlib.Omega.{arith}
+use Rattle.settings.proofs.Numbers.{most-fits}
+use Rattle.settings.specs.Settings.{stepped, nearestIn}
+use borrow.Author.Needs.{needs}
+use Rattle.settings.proofs.stepped_setting.Statement.{statement}
+use Rattle.settings.proofs.stepped_setting.Tie as tie
+
+least-of-requires : tie.Need-least-of-requires
+least-of-requires c κs = search needs
+
+most-of-requires : tie.Need-most-of-requires
+most-of-requires c κs = search needs
+
+setting-requires : tie.Need-setting-requires
+setting-requires c κs = search needs
+
+summed-requires : tie.Need-summed-requires
+summed-requires c κs = search needs
+
+larger-requires : tie.Need-larger-requires
+larger-requires c κs = search needs
+
+smaller-requires : tie.Need-smaller-requires
+smaller-requires c κs = search needs
+
+cast-result : tie.Need-cast-result
+cast-result c = omega (arith, c .smaller .ensures, c .before .before .before .before .most-of .ensures, most-fits (c .before .before .before .before .before .before .args .model) (c .before .before .before .before .before .before .args .s) (c .before .before .before .before .before .before .args .t))
+
+returns : tie.Need-returns
+unfolding stepped nearestIn
+returns c = rw (← c .before .before .before .before .before .least-of .ensures, ← c .before .before .before .before .most-of .ensures, ← c .before .before .before .setting .ensures, ← c .before .before .summed .ensures, ← c .before .larger .ensures) (c .smaller .ensures)
+
+pub stepped-setting-spec : {M : Type 1} → statement M
+stepped-setting-spec =
+    tie.close
+    (tie.spec
+    least-of-requires
+    most-of-requires
+    setting-requires
+    summed-requires
+    larger-requires
+    smaller-requires
+    cast-result
+    returns)

@@ -1,0 +1,52 @@
+-- The four settings, where each may stand, and a knob step on one.
+use Prim.Native.Nat.{ℕ, _+_, _-_, _*_, _/_, min, max}
+use lib.Dec.{ltb}
+use lib.IntN.{ℤ, pos, negsuc, _+ℤ_}
+use Rattle.base.specs.Choice.{pick}
+use Rattle.models.specs.Models.{limitsOf}
+use Rattle.supply.specs.declared.Supply.{Supply}
+use Rattle.supply.specs.declared.Target.{Target}
+use Rattle.supply.specs.declared.Target.the-variants.{Pv, Pc, Ovp, Uvl}
+use Rattle.supply.specs.With.{withPv, withPc, withOvp, withUvl}
+
+unfoldable pub settingOf : Target → Supply → ℕ
+settingOf Pv s = s .pv
+settingOf Pc s = s .pc
+settingOf Ovp s = s .ovp
+settingOf Uvl s = s .uvl
+
+unfoldable pub withSetting : Target → ℕ → Supply → Supply
+withSetting Pv x s = withPv x s
+withSetting Pc x s = withPc x s
+withSetting Ovp x s = withOvp x s
+withSetting Uvl x s = withUvl x s
+
+-- the least and the greatest value of a setting that keeps the margins and the model's limits, the other settings as they are
+unfoldable pub leastOf : ℕ → Supply → Target → ℕ
+leastOf m s Pv = (20 * s .uvl + 18) / 19
+leastOf m s Pc = 0
+leastOf m s Ovp = max (limitsOf m .«ovp_least») ((21 * s .pv + 19) / 20)
+leastOf m s Uvl = 0
+
+unfoldable pub mostOf : ℕ → Supply → Target → ℕ
+mostOf m s Pv = min (21 * limitsOf m .volts / 20) (20 * s .ovp / 21)
+mostOf m s Pc = 21 * limitsOf m .amps / 20
+mostOf m s Ovp = limitsOf m .«ovp_most»
+mostOf m s Uvl = min (limitsOf m .«uvl_most») (19 * s .pv / 20)
+
+-- a step as it comes, 32 bits in two's complement, is a signed number
+unfoldable pub signedOf : ℕ → ℤ
+signedOf raw = pick (ltb raw 0x80000000) (pos raw) (negsuc (0xFFFFFFFF - raw))
+
+-- what of an exact sum is not below 0
+abbrev pub natPart : ℤ → ℕ
+natPart (pos n) = n
+natPart (negsuc n) = 0
+
+-- the whole number from lo to hi that is nearest to z
+unfoldable pub nearestIn : ℕ → ℕ → ℤ → ℕ
+nearestIn lo hi z = min hi (max lo (natPart z))
+
+-- a setting with a step added in exact arithmetic, brought to the nearest value that keeps margins and limits
+unfoldable pub stepped : ℕ → Supply → Target → ℕ → ℕ
+stepped m s t raw = nearestIn (leastOf m s t) (mostOf m s t) (pos (settingOf t s) +ℤ signedOf raw)

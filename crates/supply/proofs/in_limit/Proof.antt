@@ -1,0 +1,18 @@
+-- `in_limit` meets its contract.
+use Rattle.supply.specs.Flt.{inLimit}
+use borrow.Author.Needs.{needs}
+use Rattle.supply.proofs.in_limit.Statement.{statement}
+use Rattle.supply.proofs.in_limit.Tie as tie
+
+cast-result : tie.Need-cast-result
+cast-result c = search needs
+
+amp-reading-requires : tie.Need-amp-reading-requires
+amp-reading-requires c κs = search needs
+
+returns : tie.Need-returns
+unfolding inLimit
+returns c = rw (c .amp-reading .ensures)
+
+pub in-limit-spec : {M : Type 1} → statement M
+in-limit-spec = tie.close (tie.spec cast-result amp-reading-requires returns)
