@@ -1,0 +1,4 @@
+pub mod Laws
+pub mod Print
+pub mod Hex
+pub mod RoundTrip

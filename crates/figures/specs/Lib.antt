@@ -1,0 +1,4 @@
+pub mod Digits
+pub mod Number
+pub mod Hex
+pub mod Figure

@@ -1,0 +1,44 @@
+-- A number of the serial line: 1 to 12 characters, digits, at least one of them, and at most one point.
+use Prim.Native.Nat.{ℕ, suc, _+_, _*_, _/_, _^_}
+use mathlib.Core.List.{List, [], _∷_}
+use mathlib.Core.Bool.{Bool, true, false, _&&_}
+use lib.ListN.{length, take, drop}
+use lib.Dec.{ltb, leb, eqb}
+use Rattle.base.specs.Choice.{pick}
+use Rattle.figures.specs.Digits.{allDigits, runValue}
+use Rattle.figures.specs.declared.Number.{Number}
+
+-- the index of the first x, or the length where there is none
+unfoldable pub firstAt : ℕ → List ℕ → ℕ
+firstAt x [] = 0
+firstAt x (y ∷ ys) = pick (eqb y x) 0 (suc (firstAt x ys))
+
+-- what stands before the first point (46), and what after it
+abbrev pub whole : List ℕ → List ℕ
+whole t = take (firstAt 46 t) t
+
+abbrev pub fraction : List ℕ → List ℕ
+fraction t = drop (firstAt 46 t + 1) t
+
+-- at most 12 characters, no second point, nothing but digits beside the point, and one digit at least
+unfoldable pub wellFormed : List ℕ → Bool
+wellFormed t = leb (length t) 12 && (allDigits (whole t) && (allDigits (fraction t) && ltb 0 (length (whole t) + length (fraction t))))
+
+-- a in whole units of d; what is below a unit is cut off
+unfoldable pub wholeUnits : ℕ → ℕ → ℕ
+wholeUnits a d = a / d
+
+-- the digits w before a point and f after it, in units of the k-th decimal: all the digits as one run, over 10 ^ length f
+unfoldable pub scaledValue : ℕ → List ℕ → List ℕ → ℕ
+scaledValue k w f = wholeUnits ((runValue w (length w) * 10 ^ length f + runValue f (length f)) * 10 ^ k) (10 ^ length f)
+
+-- the answers of a reader: the number v; and that the text is none
+abbrev pub numberIs : ℕ → Number
+numberIs v = record { good = true; value = v }
+
+abbrev pub noNumber : Number
+noNumber = record { good = false; value = 0 }
+
+-- the number that a text is, in units of the k-th decimal
+unfoldable pub readNumber : ℕ → List ℕ → Number
+readNumber k t = pick (wellFormed t) (numberIs (scaledValue k (whole t) (fraction t))) noNumber

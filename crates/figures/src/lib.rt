@@ -1,0 +1,253 @@
+// Figures on the serial line: digits, numbers with decimals, hexadecimal and sums, read from bytes and placed into a lent buffer.
+ghost use mathlib.Core.Path.{_≡_};
+ghost use Prim.Native.Nat.{ℕ, _+_, _-_, _*_, _^_, _<_, _≤_};
+ghost use lib.ListN.{length, take, drop};
+ghost use Rattle.base.specs.Put.{Put};
+ghost use Rattle.figures.specs.Digits.{digitOf, runValue, allDigits};
+ghost use Rattle.figures.specs.Number.{firstAt, wholeUnits, scaledValue, readNumber, noNumber};
+ghost use Rattle.figures.specs.Hex.{isHex, hexOf, readHex, hexDigit, hexPair, checksum};
+ghost use Rattle.figures.specs.Figure.{fixed, shortest, figure};
+
+// What was read: a number, or that the text is none (good is false, and value 0).
+pub struct Number {
+    pub good: bool,
+    pub value: u64,
+}
+
+// What a digit character stands for.
+pub fn digit(b: u8) -> u64
+    ensures { λ r. ⌜ r ≡ digitOf b ⌝ }
+{
+    if b < 48 { 0 } else { ((b - 48) % 10) as u64 }
+}
+
+// The value of the first n characters of s.
+pub fn run_value(s: &[u8], n: usize) -> u64
+    requires { ⌜ (n ≤ 12) × (n ≤ length (now s)) ⌝ }
+    ensures { λ r. ⌜ r ≡ runValue (now (s .entry)) n ⌝ }
+{
+    if n == 0 {
+        0
+    } else {
+        run_value(s, n - 1) * 10 + digit(s[n - 1])
+    }
+}
+
+// Whether each character of s is a digit.
+pub fn all_digits(s: &[u8]) -> bool
+    ensures { λ r. ⌜ r ≡ allDigits (now (s .entry)) ⌝ }
+{
+    let mut i = 0;
+    while i < s.len() {
+        let b = s[i];
+        if b < 48 {
+            return false;
+        }
+        if 57 < b {
+            return false;
+        }
+        i += 1;
+    }
+    true
+}
+
+// The index of the first x in s, or its length where there is none.
+pub fn first_at(s: &[u8], x: u8) -> usize
+    ensures { λ r. ⌜ (r ≡ firstAt x (now (s .entry))) × (r ≤ length (now (s .entry))) ⌝ }
+{
+    let mut i = 0;
+    while i < s.len() {
+        if s[i] == x {
+            return i;
+        }
+        i += 1;
+    }
+    i
+}
+
+// What stands before index p of s.
+pub fn part_before(s: &[u8], p: usize) -> &[u8]
+    requires { ⌜ p ≤ length (now s) ⌝ }
+    ensures { λ r. ⌜ now r ≡ take p (now (s .entry)) ⌝ }
+{
+    &s[..p]
+}
+
+// What stands after index p of s: nothing where p is past the end.
+pub fn part_after(s: &[u8], p: usize) -> &[u8]
+    ensures { λ r. ⌜ now r ≡ drop (p + 1) (now (s .entry)) ⌝ }
+{
+    let n = s.len();
+    if p < n { &s[p + 1..] } else { &s[n..] }
+}
+
+// 10 to the k-th power.
+pub fn pow10(k: usize) -> u64
+    requires { ⌜ k ≤ 19 ⌝ }
+    ensures { λ r. ⌜ r ≡ 10 ^ k ⌝ }
+{
+    if k == 0 { 1 } else { pow10(k - 1) * 10 }
+}
+
+// a in whole units of d: the one place that says what becomes of digits below a unit.
+pub fn whole_units(a: u64, d: u64) -> u64
+    requires { ⌜ (a < 2 ^ 62) × (0 < d) × (d < 2 ^ 62) ⌝ }
+    ensures { λ r. ⌜ r ≡ wholeUnits a d ⌝ }
+{
+    a / d
+}
+
+// The digits w before a point and f after it, in units of the k-th decimal.
+pub fn scaled_value(w: &[u8], f: &[u8], k: usize) -> u64
+    requires { ⌜ (length (now w) + length (now f) ≤ 12) × (k ≤ 6) ⌝ }
+    ensures { λ r. ⌜ r ≡ scaledValue k (now (w .entry)) (now (f .entry)) ⌝ }
+{
+    let m = w.len();
+    let n = f.len();
+    let scale = pow10(n);
+    let all = run_value(w, m) * scale + run_value(f, n);
+    whole_units(all * pow10(k), scale)
+}
+
+// The number that s is, in units of the k-th decimal.
+pub fn read_number(s: &[u8], k: usize) -> Number
+    requires { ⌜ k ≤ 6 ⌝ }
+    ensures { λ r. ⌜ r ≡ readNumber k (now (s .entry)) ⌝ }
+{
+    if 12 < s.len() {
+        return no_number();
+    }
+    let p = first_at(s, b'.');
+    let w = part_before(s, p);
+    let f = part_after(s, p);
+    if !all_digits(w) {
+        return no_number();
+    }
+    if !all_digits(f) {
+        return no_number();
+    }
+    if w.len() + f.len() == 0 {
+        return no_number();
+    }
+    Number {
+        good: true,
+        value: scaled_value(w, f, k),
+    }
+}
+
+fn no_number() -> Number
+    ensures { λ r. ⌜ r ≡ noNumber ⌝ }
+{
+    Number {
+        good: false,
+        value: 0,
+    }
+}
+
+// Whether b is a hexadecimal digit of either case.
+pub fn is_hex(b: u8) -> bool
+    ensures { λ r. ⌜ r ≡ isHex b ⌝ }
+{
+    (48 <= b) & (b <= 57) | ((65 <= b) & (b <= 70) | (97 <= b) & (b <= 102))
+}
+
+// What a hexadecimal digit of either case stands for.
+pub fn hex_of(b: u8) -> u64
+    ensures { λ r. ⌜ (r ≡ hexOf b) × (r < 256) ⌝ }
+{
+    if b <= 57 {
+        if b < 48 { 0 } else { (b - 48) as u64 }
+    } else if b <= 70 {
+        (b - 55) as u64
+    } else if b < 87 {
+        0
+    } else {
+        (b - 87) as u64
+    }
+}
+
+// The byte that two hexadecimal digits of either case are.
+pub fn read_hex(s: &[u8]) -> Number
+    ensures { λ r. ⌜ r ≡ readHex (now (s .entry)) ⌝ }
+{
+    if s.len() != 2 {
+        return no_number();
+    }
+    if !(is_hex(s[0]) & is_hex(s[1])) {
+        return no_number();
+    }
+    Number {
+        good: true,
+        value: hex_of(s[0]) * 16 + hex_of(s[1]),
+    }
+}
+
+// The sum of the bytes of s, modulo 256.
+pub fn sum(s: &[u8]) -> u8
+    ensures { λ r. ⌜ r ≡ checksum (now (s .entry)) ⌝ }
+{
+    let mut t: u64 = 0;
+    let mut i = 0;
+    while i < s.len() {
+        t = (t + base::wide(s[i])) % 256;
+        i += 1;
+    }
+    t as u8
+}
+
+// A capital hexadecimal digit.
+pub fn hex_digit(n: u8) -> u8
+    requires { ⌜ n < 16 ⌝ }
+    ensures { λ r. ⌜ r ≡ hexDigit n ⌝ }
+{
+    if n < 10 { 48 + n } else { 55 + n }
+}
+
+// Places b as two capital hexadecimal digits.
+pub fn put_hex(buf: &mut [u8], at: usize, b: u8) -> usize
+    ensures { λ r. ⌜ Put (now (buf .entry)) at (hexPair b) r (now (buf .exit)) ⌝ }
+{
+    let p = base::put_byte(buf, at, hex_digit(b / 16));
+    base::put_byte(buf, p, hex_digit(b % 16))
+}
+
+// Places the last n decimal digits of v.
+pub fn put_fixed(buf: &mut [u8], at: usize, n: usize, v: u64) -> usize
+    ensures { λ r. ⌜ Put (now (buf .entry)) at (fixed n v) r (now (buf .exit)) ⌝ }
+{
+    if n == 0 {
+        at
+    } else {
+        let p = put_fixed(buf, at, n - 1, v / 10);
+        base::put_byte(buf, p, (48 + v % 10) as u8)
+    }
+}
+
+// Places v with no needless leading zero, where n digits are enough for it.
+pub fn put_shortest(buf: &mut [u8], at: usize, n: usize, v: u64) -> usize
+    ensures { λ r. ⌜ Put (now (buf .entry)) at (shortest n v) r (now (buf .exit)) ⌝ }
+{
+    if n == 0 {
+        return at;
+    }
+    if v < 10 {
+        base::put_byte(buf, at, (48 + v) as u8)
+    } else {
+        let p = put_shortest(buf, at, n - 1, v / 10);
+        base::put_byte(buf, p, (48 + v % 10) as u8)
+    }
+}
+
+// Places v, in units of its k-th decimal.
+pub fn put_figure(buf: &mut [u8], at: usize, k: usize, v: u64) -> usize
+    requires { ⌜ k ≤ 19 ⌝ }
+    ensures { λ r. ⌜ Put (now (buf .entry)) at (figure k v) r (now (buf .exit)) ⌝ }
+{
+    let p = put_shortest(buf, at, 20, v / pow10(k));
+    if k == 0 {
+        p
+    } else {
+        let q = base::put_byte(buf, p, b'.');
+        put_fixed(buf, q, k, v)
+    }
+}

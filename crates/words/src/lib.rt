@@ -1,0 +1,38 @@
+// Words of letters of either case, held as numbers: a 1 and then a byte for each character in capitals.
+ghost use mathlib.Core.Path.{_≡_};
+ghost use Prim.Native.Nat.{_≤_};
+ghost use lib.ListN.{length};
+ghost use Rattle.words.specs.Words.{upper, packed, upperAll, wordNumber};
+
+// A letter as a capital.
+pub fn upper_byte(b: u8) -> u8
+    ensures { λ r. ⌜ r ≡ upper b ⌝ }
+{
+    if b < 97 {
+        return b;
+    }
+    if 122 < b {
+        return b;
+    }
+    b - 32
+}
+
+// The first n characters of s, in capitals, as one number.
+fn pack_word(s: &[u8], n: usize) -> u64
+    requires { ⌜ (n ≤ 5) × (n ≤ length (now s)) ⌝ }
+    ensures { λ r. ⌜ r ≡ packed (upperAll (now (s .entry))) n ⌝ }
+{
+    if n == 0 {
+        1
+    } else {
+        pack_word(s, n - 1) * 256 + base::wide(upper_byte(s[n - 1]))
+    }
+}
+
+// A word's number; of a word with more than five characters, which no table has, 0.
+pub fn word_number(s: &[u8]) -> u64
+    ensures { λ r. ⌜ r ≡ wordNumber (now (s .entry)) ⌝ }
+{
+    let n = s.len();
+    if 5 < n { 0 } else { pack_word(s, n) }
+}
