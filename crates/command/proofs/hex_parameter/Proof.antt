@@ -1,0 +1,28 @@
+use Rattle.figures.specs.Hex.{readHex}
+-- `hex_parameter` meets its contract.
+use Rattle.command.specs.Parameters.{parameterOf, readAs}
+use Rattle.command.proofs.Reading.{needed-small}
+use Rattle.figures.proofs.Hex.{hex-lt}
+use borrow.Author.Needs.{needs}
+use Rattle.command.proofs.hex_parameter.Statement.{statement}
+use Rattle.command.proofs.hex_parameter.Tie as tie
+use Rattle.command.proofs.hex_parameter.Reads as reads
+use Rattle.command.proofs.hex_parameter.Lts as lts
+use Rattle.command.proofs.need.Reads as need-reads
+use Rattle.figures.proofs.read_hex.Reads as read-hex-reads
+
+-- src/lib.rt:152:10
+read-hex-requires : tie.Need-read-hex-requires
+read-hex-requires c κs = search needs
+
+-- src/lib.rt:152:5
+need-requires : tie.Need-need-requires
+need-requires c κs = search needs
+
+-- src/lib.rt:149:1
+returns : tie.Need-returns
+unfolding parameterOf readAs
+returns c = (rw (← c .before .read-hex .ensures) (c .need .ensures), rw (c .need .ensures, c .before .read-hex .ensures) (needed-small (readHex (c .before .before .before .args .x .now)) (c .before .before .before .args .x .now) 256 (hex-lt (c .before .before .before .args .x .now))))
+
+pub hex-parameter-spec : {M : Type 1} → statement M
+hex-parameter-spec = tie.close (tie.spec read-hex-requires need-requires returns)

@@ -1,0 +1,25 @@
+-- `out_all` meets its contract.
+use Rattle.command.specs.Words.{askedBy}
+use borrow.Author.Needs.{needs}
+use Rattle.command.proofs.out_all.Statement.{statement}
+use Rattle.command.proofs.out_all.Tie as tie
+use Rattle.command.proofs.out_all.Reads as reads
+use Rattle.command.proofs.out_all.Lts as lts
+use Rattle.command.proofs.all_order.Reads as all-order-reads
+use Rattle.command.proofs.switch_parameter.Reads as switch-parameter-reads
+
+-- src/lib.rt:217:9
+switch-parameter-requires : tie.Need-switch-parameter-requires
+switch-parameter-requires c κs = search needs
+
+-- src/lib.rt:218:5
+all-order-requires : tie.Need-all-order-requires
+all-order-requires c κs = search needs
+
+-- src/lib.rt:214:1
+returns : tie.Need-returns
+unfolding askedBy
+returns c = rw (← c .before .before .switch-parameter .ensures .0) (c .all-order .ensures)
+
+pub out-all-spec : {M : Type 1} → statement M
+out-all-spec = tie.close (tie.spec switch-parameter-requires all-order-requires returns)

@@ -1,0 +1,29 @@
+-- `rmt_one` meets its contract.
+use Rattle.command.specs.Words.{askedBy}
+use borrow.Author.Needs.{needs}
+use Rattle.command.proofs.rmt_one.Statement.{statement}
+use Rattle.command.proofs.rmt_one.Tie as tie
+use Rattle.command.proofs.rmt_one.Reads as reads
+use Rattle.command.proofs.rmt_one.Lts as lts
+use Rattle.command.proofs.one_order.Reads as one-order-reads
+use Rattle.command.proofs.switch_parameter.Reads as switch-parameter-reads
+
+-- src/lib.rt:238:9
+switch-parameter-requires : tie.Need-switch-parameter-requires
+switch-parameter-requires c κs = search needs
+
+-- src/lib.rt:239:26
+cast-t3 : tie.Need-cast-t3
+cast-t3 c = search needs
+
+-- src/lib.rt:239:5
+one-order-requires : tie.Need-one-order-requires
+one-order-requires c κs = search needs
+
+-- src/lib.rt:235:1
+returns : tie.Need-returns
+unfolding askedBy
+returns c = rw (← c .before .before .switch-parameter .ensures .0) (c .one-order .ensures)
+
+pub rmt-one-spec : {M : Type 1} → statement M
+rmt-one-spec = tie.close (tie.spec switch-parameter-requires cast-t3 one-order-requires returns)

@@ -1,0 +1,25 @@
+-- `set_one` meets its contract.
+use Rattle.command.specs.Words.{askedBy}
+use borrow.Author.Needs.{needs}
+use Rattle.command.proofs.set_one.Statement.{statement}
+use Rattle.command.proofs.set_one.Tie as tie
+use Rattle.command.proofs.set_one.Reads as reads
+use Rattle.command.proofs.set_one.Lts as lts
+use Rattle.command.proofs.number_parameter.Reads as number-parameter-reads
+use Rattle.command.proofs.one_order.Reads as one-order-reads
+
+-- src/lib.rt:195:9
+number-parameter-requires : tie.Need-number-parameter-requires
+number-parameter-requires c κs = search needs
+
+-- src/lib.rt:196:5
+one-order-requires : tie.Need-one-order-requires
+one-order-requires c κs = search needs
+
+-- src/lib.rt:191:1
+returns : tie.Need-returns
+unfolding askedBy
+returns c = rw (← c .before .number-parameter .ensures) (c .one-order .ensures)
+
+pub set-one-spec : {M : Type 1} → statement M
+set-one-spec = tie.close (tie.spec number-parameter-requires one-order-requires returns)

@@ -1,0 +1,26 @@
+-- `switch_parameter` meets its contract.
+use Rattle.command.specs.Parameters.{parameterOf, readAs}
+use Rattle.command.proofs.Reading.{needed-small}
+use borrow.Author.Needs.{needs}
+use Rattle.command.proofs.switch_parameter.Statement.{statement}
+use Rattle.command.proofs.switch_parameter.Tie as tie
+use Rattle.command.proofs.switch_parameter.Reads as reads
+use Rattle.command.proofs.switch_parameter.Lts as lts
+use Rattle.command.proofs.need.Reads as need-reads
+use Rattle.command.proofs.read_switch.Reads as read-switch-reads
+
+-- src/lib.rt:146:10
+read-switch-requires : tie.Need-read-switch-requires
+read-switch-requires c κs = search needs
+
+-- src/lib.rt:146:5
+need-requires : tie.Need-need-requires
+need-requires c κs = search needs
+
+-- src/lib.rt:142:1
+returns : tie.Need-returns
+unfolding parameterOf readAs
+returns c = (rw (← c .before .read-switch .ensures .0) (c .need .ensures), rw (c .need .ensures) (needed-small (c .before .read-switch .result) (c .before .before .before .args .x .now) 256 (c .before .read-switch .ensures .1)))
+
+pub switch-parameter-spec : {M : Type 1} → statement M
+switch-parameter-spec = tie.close (tie.spec read-switch-requires need-requires returns)

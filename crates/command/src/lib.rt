@@ -1,0 +1,406 @@
+// One line of text: its sum, word and parameter, and what it asks, from the line alone.
+ghost use mathlib.Core.Path.{_≡_};
+ghost use Prim.Native.Nat.{_+_, _-_, _<_, _≤_};
+ghost use lib.Dec.{eqb};
+ghost use lib.ListN.{length, drop};
+ghost use Rattle.base.specs.Choice.{pick};
+ghost use Rattle.figures.specs.declared.Number.{Number};
+ghost use Rattle.words.specs.Words.{findNumber};
+ghost use Rattle.figures.specs.Number.{noNumber};
+ghost use Rattle.command.specs.Parameters.{bare, number, switch, hex, address, readAddress, readSwitch, needed, within30, parameterOf};
+ghost use Rattle.command.specs.Words.{commands, unknownWord, toOne, ofOne, toAll, selecting, askedBy};
+ghost use Rattle.command.specs.Lines.{heardAs, rightSum, asksOf, heardOf};
+use figures::Number;
+use supply::Act;
+use supply::Order;
+use supply::Query;
+use supply::Target;
+
+// A parameter as it was read: code 0 and its value, or the code of what is wrong with it and 0.
+pub struct Parameter {
+    pub code: u8,
+    pub value: u64,
+}
+
+// What a line asks: to select an address (or it is an ADR in error, with its code); an order of every fitted supply
+// (or it is a global in error, which nobody takes); an act of one supply; or it is a line in error, with its code.
+pub enum Asks {
+    Select(u8),
+    BadSelect(u8),
+    Everyone(Order),
+    Nobody,
+    One(Act),
+    Error(u8),
+}
+
+// What a line asks, and whether it had a right sum, so that its reply carries one.
+pub struct Heard {
+    pub asks: Asks,
+    pub summed: bool,
+}
+
+const C01: u8 = 0xC1;
+const C02: u8 = 0xC2;
+const C03: u8 = 0xC3;
+const C04: u8 = 0xC4;
+const C05: u8 = 0xC5;
+
+// A parameter that is needed: C02 where it is empty, C03 where it is no number.
+fn need(n: Number, x: &[u8]) -> Parameter
+    ensures { λ r. ⌜ r ≡ needed n (now (x .entry)) ⌝ }
+{
+    if x.len() == 0 {
+        return Parameter {
+            code: C02,
+            value: 0,
+        };
+    }
+    if n.good {
+        Parameter {
+            code: 0,
+            value: n.value,
+        }
+    } else {
+        Parameter {
+            code: C03,
+            value: 0,
+        }
+    }
+}
+
+fn no_number() -> Number
+    ensures { λ r. ⌜ r ≡ noNumber ⌝ }
+{
+    Number {
+        good: false,
+        value: 0,
+    }
+}
+
+// One digit from 0 to most.
+fn read_switch(x: &[u8], most: u8) -> Number
+    requires { ⌜ most < 10 ⌝ }
+    ensures { λ r. ⌜ (r ≡ readSwitch most (now (x .entry))) × (r .value < 256) ⌝ }
+{
+    if x.len() != 1 {
+        return no_number();
+    }
+    let b = x[0];
+    if b < 48 {
+        return no_number();
+    }
+    if 48 + most < b {
+        return no_number();
+    }
+    Number {
+        good: true,
+        value: base::wide(b - 48),
+    }
+}
+
+// One or two digits.
+fn read_address(x: &[u8]) -> Number
+    ensures { λ r. ⌜ r ≡ readAddress (now (x .entry)) ⌝ }
+{
+    let n = x.len();
+    if 2 < n {
+        return no_number();
+    }
+    if figures::all_digits(x) {
+        Number {
+            good: true,
+            value: figures::run_value(x, n),
+        }
+    } else {
+        no_number()
+    }
+}
+
+fn bare_parameter(x: &[u8]) -> Parameter
+    ensures { λ r. ⌜ r ≡ parameterOf bare (now (x .entry)) ⌝ }
+{
+    if x.len() == 0 {
+        Parameter {
+            code: 0,
+            value: 0,
+        }
+    } else {
+        Parameter {
+            code: C03,
+            value: 0,
+        }
+    }
+}
+
+fn number_parameter(x: &[u8], k: usize) -> Parameter
+    requires { ⌜ k ≤ 6 ⌝ }
+    ensures { λ r. ⌜ r ≡ parameterOf (number k) (now (x .entry)) ⌝ }
+{
+    need(figures::read_number(x, k), x)
+}
+
+fn switch_parameter(x: &[u8], most: u8) -> Parameter
+    requires { ⌜ most < 10 ⌝ }
+    ensures { λ r. ⌜ (r ≡ parameterOf (switch most) (now (x .entry))) × (r .value < 256) ⌝ }
+{
+    need(read_switch(x, most), x)
+}
+
+fn hex_parameter(x: &[u8]) -> Parameter
+    ensures { λ r. ⌜ (r ≡ parameterOf hex (now (x .entry))) × (r .value < 256) ⌝ }
+{
+    need(figures::read_hex(x), x)
+}
+
+fn address_parameter(x: &[u8]) -> Parameter
+    ensures { λ r. ⌜ (r ≡ parameterOf address (now (x .entry))) × (r .value < 31) ⌝ }
+{
+    let p = need(read_address(x), x);
+    if 30 < p.value {
+        Parameter {
+            code: C05,
+            value: 0,
+        }
+    } else {
+        p
+    }
+}
+
+// An order to one supply, or the code of its parameter.
+fn one_order(o: Order, code: u8) -> Asks
+    ensures { λ r. ⌜ r ≡ pick (eqb code 0) (Asks.One (Act.Obey o)) (Asks.Error code) ⌝ }
+{
+    if code == 0 {
+        Asks::One(Act::Obey(o))
+    } else {
+        Asks::Error(code)
+    }
+}
+
+// An order to every fitted supply; in error, nobody takes it.
+fn all_order(o: Order, code: u8) -> Asks
+    ensures { λ r. ⌜ r ≡ pick (eqb code 0) (Asks.Everyone o) Asks.Nobody ⌝ }
+{
+    if code == 0 {
+        Asks::Everyone(o)
+    } else {
+        Asks::Nobody
+    }
+}
+
+fn set_one(t: Target, k: usize, x: &[u8]) -> Asks
+    requires { ⌜ k ≤ 6 ⌝ }
+    ensures { λ r. ⌜ r ≡ askedBy (toOne (number k) (Order.Set t)) (now (x .entry)) ⌝ }
+{
+    let p = number_parameter(x, k);
+    one_order(Order::Set(t, p.value), p.code)
+}
+
+fn set_all(t: Target, k: usize, x: &[u8]) -> Asks
+    requires { ⌜ k ≤ 6 ⌝ }
+    ensures { λ r. ⌜ r ≡ askedBy (toAll (number k) (Order.Set t)) (now (x .entry)) ⌝ }
+{
+    let p = number_parameter(x, k);
+    all_order(Order::Set(t, p.value), p.code)
+}
+
+fn out_one(x: &[u8]) -> Asks
+    ensures { λ r. ⌜ r ≡ askedBy (toOne (switch 1) (λ v. Order.Out (eqb v 1))) (now (x .entry)) ⌝ }
+{
+    let p = switch_parameter(x, 1);
+    one_order(Order::Out(p.value == 1), p.code)
+}
+
+fn out_all(x: &[u8]) -> Asks
+    ensures { λ r. ⌜ r ≡ askedBy (toAll (switch 1) (λ v. Order.Out (eqb v 1))) (now (x .entry)) ⌝ }
+{
+    let p = switch_parameter(x, 1);
+    all_order(Order::Out(p.value == 1), p.code)
+}
+
+fn fld_one(x: &[u8]) -> Asks
+    ensures { λ r. ⌜ r ≡ askedBy (toOne (switch 1) (λ v. Order.Fld (eqb v 1))) (now (x .entry)) ⌝ }
+{
+    let p = switch_parameter(x, 1);
+    one_order(Order::Fld(p.value == 1), p.code)
+}
+
+fn ast_one(x: &[u8]) -> Asks
+    ensures { λ r. ⌜ r ≡ askedBy (toOne (switch 1) (λ v. Order.Ast (eqb v 1))) (now (x .entry)) ⌝ }
+{
+    let p = switch_parameter(x, 1);
+    one_order(Order::Ast(p.value == 1), p.code)
+}
+
+fn rmt_one(x: &[u8]) -> Asks
+    ensures { λ r. ⌜ r ≡ askedBy (toOne (switch 2) Order.Rmt) (now (x .entry)) ⌝ }
+{
+    let p = switch_parameter(x, 2);
+    one_order(Order::Rmt(p.value as u8), p.code)
+}
+
+fn fena_one(x: &[u8]) -> Asks
+    ensures { λ r. ⌜ r ≡ askedBy (toOne hex Order.Fena) (now (x .entry)) ⌝ }
+{
+    let p = hex_parameter(x);
+    one_order(Order::Fena(p.value as u8), p.code)
+}
+
+fn bare_one(o: Order, x: &[u8]) -> Asks
+    ensures { λ r. ⌜ r ≡ askedBy (toOne bare (λ v. o)) (now (x .entry)) ⌝ }
+{
+    let p = bare_parameter(x);
+    one_order(o, p.code)
+}
+
+fn bare_all(o: Order, x: &[u8]) -> Asks
+    ensures { λ r. ⌜ r ≡ askedBy (toAll bare (λ v. o)) (now (x .entry)) ⌝ }
+{
+    let p = bare_parameter(x);
+    all_order(o, p.code)
+}
+
+fn query_one(q: Query, x: &[u8]) -> Asks
+    ensures { λ r. ⌜ r ≡ askedBy (ofOne q) (now (x .entry)) ⌝ }
+{
+    let p = bare_parameter(x);
+    if p.code == 0 {
+        Asks::One(Act::Ask(q))
+    } else {
+        Asks::Error(p.code)
+    }
+}
+
+fn select_one(x: &[u8]) -> Asks
+    ensures { λ r. ⌜ r ≡ askedBy selecting (now (x .entry)) ⌝ }
+{
+    let p = address_parameter(x);
+    if p.code == 0 {
+        Asks::Select(p.value as u8)
+    } else {
+        Asks::BadSelect(p.code)
+    }
+}
+
+// The words as numbers: a 1, and then a byte for each character.
+const PV: u64 = 0x1_50_56;
+const PC: u64 = 0x1_50_43;
+const OVP: u64 = 0x1_4f_56_50;
+const OVM: u64 = 0x1_4f_56_4d;
+const UVL: u64 = 0x1_55_56_4c;
+const OUT: u64 = 0x1_4f_55_54;
+const FLD: u64 = 0x1_46_4c_44;
+const AST: u64 = 0x1_41_53_54;
+const RMT: u64 = 0x1_52_4d_54;
+const FENA: u64 = 0x1_46_45_4e_41;
+const CLS: u64 = 0x1_43_4c_53;
+const RST: u64 = 0x1_52_53_54;
+const PV_ASKED: u64 = 0x1_50_56_3f;
+const PC_ASKED: u64 = 0x1_50_43_3f;
+const OVP_ASKED: u64 = 0x1_4f_56_50_3f;
+const UVL_ASKED: u64 = 0x1_55_56_4c_3f;
+const MV_ASKED: u64 = 0x1_4d_56_3f;
+const MC_ASKED: u64 = 0x1_4d_43_3f;
+const OUT_ASKED: u64 = 0x1_4f_55_54_3f;
+const FLD_ASKED: u64 = 0x1_46_4c_44_3f;
+const AST_ASKED: u64 = 0x1_41_53_54_3f;
+const RMT_ASKED: u64 = 0x1_52_4d_54_3f;
+const MODE_ASKED: u64 = 0x1_4d_4f_44_45_3f;
+const FLT_ASKED: u64 = 0x1_46_4c_54_3f;
+const FENA_ASKED: u64 = 0x1_46_45_4e_41_3f;
+const FEVE_ASKED: u64 = 0x1_46_45_56_45_3f;
+const ADR: u64 = 0x1_41_44_52;
+const GPV: u64 = 0x1_47_50_56;
+const GPC: u64 = 0x1_47_50_43;
+const GOUT: u64 = 0x1_47_4f_55_54;
+const GRST: u64 = 0x1_47_52_53_54;
+
+// What the word with this number asks of its parameter: an arm for each order and query.
+fn asks_of_word(word: u64, x: &[u8]) -> Asks
+    ensures { λ r. ⌜ r ≡ askedBy (findNumber unknownWord commands word) (now (x .entry)) ⌝ }
+{
+    match word {
+        PV => set_one(Target::Pv, 4, x),
+        PC => set_one(Target::Pc, 3, x),
+        OVP => set_one(Target::Ovp, 4, x),
+        OVM => bare_one(Order::Ovm, x),
+        UVL => set_one(Target::Uvl, 4, x),
+        OUT => out_one(x),
+        FLD => fld_one(x),
+        AST => ast_one(x),
+        RMT => rmt_one(x),
+        FENA => fena_one(x),
+        CLS => bare_one(Order::Cls, x),
+        RST => bare_one(Order::Rst, x),
+        PV_ASKED => query_one(Query::Pv, x),
+        PC_ASKED => query_one(Query::Pc, x),
+        OVP_ASKED => query_one(Query::Ovp, x),
+        UVL_ASKED => query_one(Query::Uvl, x),
+        MV_ASKED => query_one(Query::Mv, x),
+        MC_ASKED => query_one(Query::Mc, x),
+        OUT_ASKED => query_one(Query::Out, x),
+        FLD_ASKED => query_one(Query::Fld, x),
+        AST_ASKED => query_one(Query::Ast, x),
+        RMT_ASKED => query_one(Query::Rmt, x),
+        MODE_ASKED => query_one(Query::Mode, x),
+        FLT_ASKED => query_one(Query::Flt, x),
+        FENA_ASKED => query_one(Query::Fena, x),
+        FEVE_ASKED => query_one(Query::Feve, x),
+        ADR => select_one(x),
+        GPV => set_all(Target::Pv, 4, x),
+        GPC => set_all(Target::Pc, 3, x),
+        GOUT => out_all(x),
+        GRST => bare_all(Order::Rst, x),
+        _ => Asks::Error(C01),
+    }
+}
+
+// What a line without its sum asks.
+fn asks_of(t: &[u8]) -> Asks
+    ensures { λ r. ⌜ r ≡ asksOf (now (t .entry)) ⌝ }
+{
+    if t.len() == 0 {
+        return Asks::One(Act::Nothing);
+    }
+    let p = figures::first_at(t, b' ');
+    let word = words::word_number(figures::part_before(t, p));
+    asks_of_word(word, figures::part_after(t, p))
+}
+
+fn heard_as(asks: Asks, summed: bool) -> Heard
+    ensures { λ r. ⌜ r ≡ heardAs asks summed ⌝ }
+{
+    Heard { asks, summed }
+}
+
+// Whether the last two characters are the sum of all before the $ that stands before them.
+fn right_sum(s: &[u8]) -> bool
+    requires { ⌜ 3 ≤ length (now s) ⌝ }
+    ensures { λ r. ⌜ r ≡ rightSum (now (s .entry)) ⌝ }
+{
+    let n = s.len();
+    let told = figures::read_hex(figures::part_after(s, n - 3));
+    let sum = figures::sum(figures::part_before(s, n - 3));
+    told.good & (told.value == base::wide(sum))
+}
+
+// A line at its CR.
+pub fn read_line(s: &[u8], spoiled: bool) -> Heard
+    ensures { λ r. ⌜ r ≡ heardOf (now (s .entry)) spoiled ⌝ }
+{
+    if spoiled {
+        return heard_as(Asks::Error(C01), false);
+    }
+    let n = s.len();
+    if n < 3 {
+        return heard_as(asks_of(s), false);
+    }
+    if s[n - 3] != b'$' {
+        return heard_as(asks_of(s), false);
+    }
+    if right_sum(s) {
+        heard_as(asks_of(figures::part_before(s, n - 3)), true)
+    } else {
+        heard_as(Asks::Error(C04), false)
+    }
+}
