@@ -64,6 +64,14 @@ put-full b at xs h =
     let z : length b - at ≡ 0 = omega arith in
     record { next-is = rw z (omega arith); bytes = rw z (sym (patch-none b at)) }
 
+-- nothing is placed past the end
+pub put-full-is : {b : List ℕ} {at : ℕ} {xs : List ℕ} {p : ℕ} {b′ : List ℕ} → Put b at xs p b′ → length b ≤ at → (p ≡ at) × (b′ ≡ b)
+put-full-is {b} {at} {xs} {p} {b′} f h =
+    let z : length b - at ≡ 0 = omega arith in
+    let n : p ≡ at + 0 = rw z at (f .next-is) in
+    let e : b′ ≡ patch b at [] = rw z at (f .bytes) in
+    (omega arith, e ∙ patch-none b at)
+
 -- what is placed of xs, and then of ys, is what is placed of both
 module _ (b : List ℕ) (at : ℕ) (xs ys : List ℕ) where
   abbrev rest : List ℕ
@@ -101,3 +109,11 @@ put-more b at s i p b′ q b″ f h g = rw (add-one i, take-suc s i 0 h) (put-th
 
 pub put-all : (b : List ℕ) (at : ℕ) (s : List ℕ) (i p : ℕ) (b′ : List ℕ) → Put b at (take i s) p b′ → length s ≤ i → Put b at s p b′
 put-all b at s i p b′ f h = rw (take-all i s h) at f
+
+-- what was placed whole stands there
+pub put-there : {b : List ℕ} {at : ℕ} {xs : List ℕ} {p : ℕ} {b′ : List ℕ} → Put b at xs p b′ → at + length xs ≤ length b → take (p - at) (drop at b′) ≡ xs
+put-there {b} {at} {xs} {p} {b′} f h =
+    let w = put-whole f h in
+    let k : p - at ≡ length xs = omega (arith, w .0) in
+    rw (k, w .1, drop-at (take at b) (xs ++ drop (at + length xs) b) at (length-take-le at b (omega arith)))
+    (take-at xs (drop (at + length xs) b) (length xs) refl)

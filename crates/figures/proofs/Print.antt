@@ -39,15 +39,15 @@ module _ {b : List ℕ} {at : ℕ} where
   put-shortest-more zero v e l f g = absurd (e refl)
   put-shortest-more (suc n) v e l f g = let d : suc n - 1 ≡ n = omega arith in rw (le-ltb v 10 l) (put-then (rw d at f) g)
 
-  -- a figure with no decimals, and with some; d is what the code divides by
-  pub put-figure-whole : (k v d : ℕ) → d ≡ 10 ^ k → k ≡ 0 → {p : ℕ} {b′ : List ℕ} → Put b at (shortest 20 (v / d)) p b′ → Put b at (figure k v) p b′
+  -- a figure with no decimals, and with some; w is what the code has before the point
+  pub put-figure-whole : (k v w : ℕ) → w ≡ v / 10 ^ k → k ≡ 0 → {p : ℕ} {b′ : List ℕ} → Put b at (shortest 20 w) p b′ → Put b at (figure k v) p b′
   unfolding figure decimals
-  put-figure-whole k v d h e f = rw (← h, e, append-nil) f
+  put-figure-whole k v w h e f = rw (← h, e, append-nil) f
 
-  pub put-figure-point : (k v d : ℕ) → d ≡ 10 ^ k → (k ≡ 0 → ⊥) → {p : ℕ} {b₁ : List ℕ} {q : ℕ} {b₂ : List ℕ} {r : ℕ} {b₃ : List ℕ} → Put b at (shortest 20 (v / d)) p b₁ → Put b₁ p (46 ∷ []) q b₂ → Put b₂ q (fixed k v) r b₃ → Put b at (figure k v) r b₃
+  pub put-figure-point : (k v w : ℕ) → w ≡ v / 10 ^ k → (k ≡ 0 → ⊥) → {p : ℕ} {b₁ : List ℕ} {q : ℕ} {b₂ : List ℕ} {r : ℕ} {b₃ : List ℕ} → Put b at (shortest 20 w) p b₁ → Put b₁ p (46 ∷ []) q b₂ → Put b₂ q (fixed k v) r b₃ → Put b at (figure k v) r b₃
   unfolding figure decimals
-  put-figure-point zero v d h e f g i = absurd (e refl)
-  put-figure-point (suc k) v d h e f g i = rw (← h) (put-then f (put-then g i))
+  put-figure-point zero v w h e f g i = absurd (e refl)
+  put-figure-point (suc k) v w h e f g i = rw (← h) (put-then f (put-then g i))
 
 -- how long what is printed is
 pub length-fixed : (n v : ℕ) → length (fixed n v) ≡ n

@@ -1,6 +1,6 @@
 // Figures on the serial line: digits, numbers with decimals, hexadecimal and sums, read from bytes and placed into a lent buffer.
 ghost use mathlib.Core.Path.{_≡_};
-ghost use Prim.Native.Nat.{ℕ, _+_, _-_, _*_, _^_, _<_, _≤_};
+ghost use Prim.Native.Nat.{ℕ, _+_, _-_, _*_, _/_, _^_, _<_, _≤_};
 ghost use lib.ListN.{length, take, drop};
 ghost use Rattle.base.specs.Put.{Put};
 ghost use Rattle.figures.specs.Digits.{digitOf, runValue, allDigits};
@@ -238,12 +238,18 @@ pub fn put_shortest(buf: &mut [u8], at: usize, n: usize, v: u64) -> usize
     }
 }
 
+// What of v stands before the point, in units of its k-th decimal; 64 bits have no more than 20 digits.
+fn whole_part(v: u64, k: usize) -> u64
+    ensures { λ r. ⌜ r ≡ v / 10 ^ k ⌝ }
+{
+    if 19 < k { 0 } else { v / pow10(k) }
+}
+
 // Places v, in units of its k-th decimal.
 pub fn put_figure(buf: &mut [u8], at: usize, k: usize, v: u64) -> usize
-    requires { ⌜ k ≤ 19 ⌝ }
     ensures { λ r. ⌜ Put (now (buf .entry)) at (figure k v) r (now (buf .exit)) ⌝ }
 {
-    let p = put_shortest(buf, at, 20, v / pow10(k));
+    let p = put_shortest(buf, at, 20, whole_part(v, k));
     if k == 0 {
         p
     } else {

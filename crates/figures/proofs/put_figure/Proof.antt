@@ -1,7 +1,6 @@
 -- `figures::put_figure` meets its contract.
 use borrow.Author.Needs.{needs}
 use native.Mathlib.Omega.{arith}
-use Rattle.figures.proofs.Laws.{pow-pos}
 use Rattle.figures.proofs.Print.{put-figure-whole, put-figure-point}
 use Rattle.figures.proofs.put_figure.Statement.{statement}
 use Rattle.figures.proofs.put_figure.Tie as tie
@@ -11,7 +10,6 @@ put-figure-spec =
     tie.close
     (tie.spec
     (λ c κs. search needs)
-    (λ c. rw (c .pow10 .ensures) (pow-pos _))
     (λ c κs. search needs)
     (λ c κs. search needs)
     (λ c κs. search needs)
@@ -19,11 +17,11 @@ put-figure-spec =
     (λ c.
     let s = c .before .before .before in
     let a = s .before .before .before .before .args in
-    put-figure-whole (a .k) (a .v) (s .before .pow10 .result) (s .before .pow10 .ensures) (omega arith) (s .put-shortest .ensures))
+    put-figure-whole (a .k) (a .v) (s .before .whole-part .result) (s .before .whole-part .ensures) (omega arith) (s .put-shortest .ensures))
     (λ c. search needs)
     (λ c.
     let q = c .before .before .before .before .before .before in
     let e = q .before .before in
     let s = e .before .before .before in
     let a = s .before .before .before .before .args in
-    put-figure-point (a .k) (a .v) (s .before .pow10 .result) (s .before .pow10 .ensures) (λ z. omega arith) (s .put-shortest .ensures) (q .put-byte .ensures) (c .before .before .put-fixed .ensures)))
+    put-figure-point (a .k) (a .v) (s .before .whole-part .result) (s .before .whole-part .ensures) (λ z. omega arith) (s .put-shortest .ensures) (q .put-byte .ensures) (c .before .before .put-fixed .ensures)))
