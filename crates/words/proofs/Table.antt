@@ -134,6 +134,20 @@ module _ {A : Type 0} (none : A) where
       byTest true s l r = absurd (omega (arith, ap length (same-eq (e .0) w s)))
       byTest false s l r = r
 
+  -- what holds of the default, and of each row whose word is as long as w, holds of what w finds
+  abbrev pub RowsHave : (A → Type 0) → List (Row A) → List ℕ → Type 0
+  RowsHave P [] w = Unit
+  RowsHave P (e ∷ es) w = (length (e .0) ≡ length w → P (e .1)) × RowsHave P es w
+
+  pub find-has : (P : A → Type 0) (t : List (Row A)) (w : List ℕ) → P none → RowsHave P t w → P (findWord none t w)
+  unfolding findWord
+  find-has P [] w p h = p
+  find-has P (e ∷ t) w p h = byTest (sameWord (e .0) w) refl (find-has P t w p (h .1))
+    where
+      byTest : (b : Bool) → sameWord (e .0) w ≡ b → P (findWord none t w) → P (pick b (e .1) (findWord none t w))
+      byTest true s r = h .0 (ap length (same-eq (e .0) w s))
+      byTest false s r = r
+
   -- 0 is no word's number
   find-zero : (t : List (Row A)) → findNumber none t 0 ≡ none
   unfolding findNumber

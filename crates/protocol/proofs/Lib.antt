@@ -1,0 +1,4 @@
+pub mod Bench
+pub mod Verdicts
+pub mod SentBack
+pub mod Room

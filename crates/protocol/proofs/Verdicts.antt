@@ -1,0 +1,75 @@
+-- A line is what the first stage that applies says; so a line that deserves two verdicts gets the earlier.
+use mathlib.Core.Path.{_≡_, refl, sym, ap, _∙_}
+use mathlib.Core.List.{List, [], _∷_, _++_}
+use mathlib.Core.Bool.{Bool, true, false, not, _&&_}
+use Prim.Native.Nat.{ℕ}
+use lib.Dec.{ltb, eqb}
+use Rattle.base.specs.Choice.{pick}
+use Rattle.supply.specs.declared.Act.the-variants.{Nothing}
+use Rattle.command.specs.declared.Asks.{Asks}
+use Rattle.command.specs.declared.Asks.the-variants.{One, Error}
+use Rattle.command.specs.Parameters.{Kind, bare, number, switch, hex, address, unknown, c01, c02, c03, c04, c05, readAs, isEmpty, valueIs, refusedBy, within30, parameterOf}
+use Rattle.words.specs.Words.{upperAll}
+use Rattle.command.specs.Words.{Command, commandOf, askedWith, askedBy}
+use Rattle.command.specs.Lines.{hasSum, rightSum, summedPart, wordOf, parameterText, asksOf, heardAs, heardOf}
+use Rattle.protocol.specs.Verdicts.{Stage, firstOf, bodyOf, commandIn, givenIn, isUnknown, isAbsent, isMalformed, isBeyond, valueOf, stages}
+
+module _ (k : Command) where
+  -- a parameter that is needed: absent, malformed, or read
+  need-cases : (v : ℕ) (e g : Bool) → askedWith k (pick e (refusedBy c02) (pick g (valueIs v) (refusedBy c03))) ≡ pick e (k .fails c02) (pick (not g) (k .fails c03) (k .asks v))
+  need-cases v true g = refl
+  need-cases v false true = refl
+  need-cases v false false = refl
+
+  -- and an address, above 30 or not
+  address-cases :
+      (v : ℕ) (e g b : Bool) → ltb 30 v ≡ b
+      → askedWith k (within30 (pick e (refusedBy c02) (pick g (valueIs v) (refusedBy c03)))) ≡ pick e (k .fails c02) (pick (not g) (k .fails c03) (pick b (k .fails c05) (k .asks v)))
+  address-cases v true g b q = refl
+  address-cases v false true true q = rw q refl
+  address-cases v false true false q = rw q refl
+  address-cases v false false b q = refl
+
+  bare-cases : (e : Bool) → askedWith k (pick e (valueIs 0) (refusedBy c03)) ≡ pick (not e) (k .fails c03) (k .asks 0)
+  bare-cases true = refl
+  bare-cases false = refl
+
+  abbrev ownStages : Kind → List ℕ → List Stage
+  ownStages d x =
+      (isUnknown d, k .fails c01) ∷ (isAbsent d x, k .fails c02) ∷ (isMalformed d x, k .fails c03) ∷ (isBeyond d x, k .fails c05) ∷ []
+
+  by-kind : (d : Kind) (x : List ℕ) → askedWith k (parameterOf d x) ≡ firstOf (ownStages d x) (k .asks (valueOf d x))
+  unfolding parameterOf readAs
+  by-kind bare x = bare-cases (isEmpty x)
+  by-kind (number n) x = need-cases (readAs (number n) x .value) (isEmpty x) (readAs (number n) x .good)
+  by-kind (switch n) x = need-cases (readAs (switch n) x .value) (isEmpty x) (readAs (switch n) x .good)
+  by-kind hex x = need-cases (readAs hex x .value) (isEmpty x) (readAs hex x .good)
+  by-kind address x = address-cases (readAs address x .value) (isEmpty x) (readAs address x .good) (ltb 30 (readAs address x .value)) refl
+  by-kind unknown x = refl
+
+-- the stages after the sum, of a line without its sum
+body-stages : (u : List ℕ) → asksOf u ≡ pick (isEmpty u) (One Nothing) (firstOf (ownStages (commandOf (upperAll (wordOf u))) (commandOf (upperAll (wordOf u)) .kind) (parameterText u)) (commandOf (upperAll (wordOf u)) .asks (valueOf (commandOf (upperAll (wordOf u)) .kind) (parameterText u))))
+unfolding asksOf askedBy
+body-stages u = ap (pick (isEmpty u) (One Nothing)) (by-kind (commandOf (upperAll (wordOf u))) (commandOf (upperAll (wordOf u)) .kind) (parameterText u))
+
+-- THE VERDICTS IN TURN
+pub verdicts : (t : List ℕ) (spoiled : Bool) → heardOf t spoiled .asks ≡ firstOf (stages t spoiled) (commandIn t .asks (valueOf (commandIn t .kind) (givenIn t)))
+unfolding heardOf
+verdicts t true = refl
+verdicts t false = bySum (hasSum t) (rightSum t) refl
+  where
+    bySum : (h r : Bool) → hasSum t ≡ h
+        → pick h (pick r (heardAs (asksOf (summedPart t)) true) (heardAs (Error c04) false)) (heardAs (asksOf t) false) .asks
+        ≡ pick (h && not r) (Error c04) (pick (isEmpty (pick h (summedPart t) t)) (One Nothing) (firstOf (ownStages (commandOf (upperAll (wordOf (pick h (summedPart t) t)))) (commandOf (upperAll (wordOf (pick h (summedPart t) t))) .kind) (parameterText (pick h (summedPart t) t))) (commandOf (upperAll (wordOf (pick h (summedPart t) t))) .asks (valueOf (commandOf (upperAll (wordOf (pick h (summedPart t) t))) .kind) (parameterText (pick h (summedPart t) t))))))
+    bySum true true e = body-stages (summedPart t)
+    bySum true false e = refl
+    bySum false r e = body-stages t
+
+-- the first stage that applies decides, whatever stands after it
+abbrev pub NoneApplies : List Stage → Type 0
+NoneApplies [] = Unit
+NoneApplies (e ∷ es) = (e .0 ≡ false) × NoneApplies es
+
+pub earlier-wins : (before : List Stage) (a : Asks) (after : List Stage) (d : Asks) → NoneApplies before → firstOf (before ++ (true, a) ∷ after) d ≡ a
+earlier-wins [] a after d n = refl
+earlier-wins (e ∷ es) a after d n = rw (n .0) (earlier-wins es a after d (n .1))

@@ -1,0 +1,66 @@
+-- The ten bench figures: sequences of lines, samples and knob steps on a fresh supply, and the replies that they draw.
+use Prim.Native.Nat.{ℕ}
+use Prim.Native.String.{String}
+use mathlib.Core.Path.{_≡_}
+use mathlib.Core.List.{List, [], _∷_, _++_, map}
+use mathlib.Core.Bool.{false}
+use Rattle.base.specs.Text.{codes}
+use Rattle.supply.specs.declared.Supply.{Supply}
+use Rattle.supply.specs.declared.Target.{Target}
+use Rattle.supply.specs.declared.Target.the-variants.{Pv}
+use Rattle.supply.specs.declared.Act.the-variants.{Sample, Turn}
+use Rattle.supply.specs.State.{fresh}
+use Rattle.acts.specs.Acts.{performed}
+use Rattle.command.specs.Lines.{heardOf}
+use Rattle.protocol.specs.Sent.{obeyed, repliedTo}
+
+pub data Input : Type 0 where
+  line : String → Input
+  counts : ℕ → ℕ → Input
+  step : Target → ℕ → Input
+
+-- the replies of the lines among the inputs, each with its CR
+abbrev pub repliesOn : ℕ → Supply → List Input → List (List ℕ)
+repliesOn m s [] = []
+repliesOn m s (line t ∷ is) =
+    repliedTo m s (heardOf (codes t) false .asks) (heardOf (codes t) false .summed) ∷ repliesOn m (obeyed m s (heardOf (codes t) false .asks)) is
+repliesOn m s (counts v a ∷ is) = repliesOn m (performed m s (Sample v a)) is
+repliesOn m s (step t raw ∷ is) = repliesOn m (performed m s (Turn t raw)) is
+
+pub record Figure : Type 0 where
+  pub model : ℕ
+  pub inputs : List Input
+  pub replies : List String
+
+abbrev pub drawn : Figure → List (List ℕ)
+drawn f = repliesOn (f .model) (fresh (f .model)) (f .inputs)
+
+abbrev pub expected : Figure → List (List ℕ)
+expected f = map (λ (t : String). codes t ++ (13 ∷ [])) (f .replies)
+
+abbrev pub figure : ℕ → List Input → List String → Figure
+figure m is rs = record { model = m; inputs = is; replies = rs }
+
+unfoldable pub benchFigures : List Figure
+benchFigures =
+    figure 0 (line "PV 6.3" ∷ line "PV 6.3001" ∷ []) ("OK" ∷ "C05" ∷ []) ∷
+    figure 6 (line "PV 62.8571" ∷ line "PV 62.8572" ∷ []) ("OK" ∷ "E01" ∷ []) ∷
+    figure 3 (line "PV 10" ∷ line "UVL 9.5001" ∷ line "UVL 9.5" ∷ line "PV 9.9999" ∷ []) ("OK" ∷ "E06" ∷ "OK" ∷ "E02" ∷ []) ∷
+    figure 3 (line "PV 10" ∷ line "OVP 10.4999" ∷ line "OVP 10.5" ∷ []) ("OK" ∷ "E04" ∷ "OK" ∷ []) ∷
+    figure 2 (line "PV 12.5" ∷ line "UVL 11.9" ∷ line "PV 13" ∷ line "UVL 11.9" ∷ line "UVL 11.9001" ∷ []) ("OK" ∷ "E06" ∷ "OK" ∷ "OK" ∷ "C05" ∷ []) ∷
+    figure 11 (counts 65535 0 ∷ line "MV?" ∷ []) ("786.4200" ∷ []) ∷
+    figure 0 (counts 65535 0 ∷ line "MV?" ∷ []) ("7.8642" ∷ []) ∷
+    figure 0 (line "PV 5.00009" ∷ line "PV?" ∷ []) ("OK" ∷ "5.0000" ∷ []) ∷
+    figure 0 (line "PV?$E5" ∷ []) ("0.0000$1E" ∷ []) ∷
+    figure 6 (step Pv 6000000 ∷ line "PV?" ∷ []) ("62.8571" ∷ []) ∷
+    figure 0
+    (line "PV 5" ∷ line "PC 10" ∷ line "OVP 5.5" ∷ line "OUT 1" ∷
+    counts 45833 0 ∷ line "FLT?" ∷
+    counts 45834 0 ∷ line "FLT?" ∷
+    line "OUT 0" ∷ line "FLT?" ∷ line "OUT 1" ∷ line "FLT?" ∷ [])
+    ("OK" ∷ "OK" ∷ "OK" ∷ "OK" ∷ "00" ∷ "10" ∷ "OK" ∷ "50" ∷ "OK" ∷ "00" ∷ []) ∷
+    []
+
+-- THE TEN BENCH FIGURES, byte for byte
+abbrev pub BenchFigures : Type 0
+BenchFigures = map drawn benchFigures ≡ map expected benchFigures

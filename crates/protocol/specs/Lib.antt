@@ -1,0 +1,4 @@
+pub mod Sent
+pub mod Verdicts
+pub mod Bench
+pub mod SentBack

@@ -1,0 +1,65 @@
+-- A setting that was printed, sent back to the order it came from; and the room that a reply takes.
+use Prim.Native.Nat.{ℕ, _+_, _*_, _^_, _<_, _≤_}
+use mathlib.Core.Path.{_≡_}
+use mathlib.Core.List.{List, [], _∷_, _++_}
+use mathlib.Core.Bool.{true, false}
+use lib.ListN.{length}
+use Rattle.base.specs.Text.{codes}
+use Rattle.supply.specs.declared.Supply.{Supply}
+use Rattle.supply.specs.declared.Target.{Target}
+use Rattle.supply.specs.declared.Target.the-variants.{Pv, Pc, Ovp, Uvl}
+use Rattle.supply.specs.declared.Query.{Query}
+use Rattle.supply.specs.declared.Query.the-variants as query
+use Rattle.supply.specs.declared.Order.the-variants.{Set}
+use Rattle.supply.specs.declared.Act.the-variants.{Obey, Ask}
+use Rattle.settings.specs.Settings.{settingOf}
+use Rattle.settings.specs.Lawful.{Lawful}
+use Rattle.acts.specs.Acts.{codeOf, performed}
+use Rattle.command.specs.declared.Asks.the-variants.{One}
+use Rattle.command.specs.Lines.{heardAs, heardOf}
+use Rattle.protocol.specs.Sent.{repliedTo}
+
+-- the query of a setting, and the words of its query and its order
+abbrev pub queryOf : Target → Query
+queryOf Pv = query.Pv
+queryOf Pc = query.Pc
+queryOf Ovp = query.Ovp
+queryOf Uvl = query.Uvl
+
+abbrev pub queryWord : Target → List ℕ
+queryWord Pv = codes "PV?"
+queryWord Pc = codes "PC?"
+queryWord Ovp = codes "OVP?"
+queryWord Uvl = codes "UVL?"
+
+abbrev pub orderWord : Target → List ℕ
+orderWord Pv = codes "PV"
+orderWord Pc = codes "PC"
+orderWord Ovp = codes "OVP"
+orderWord Uvl = codes "UVL"
+
+-- from state to reply bytes to line to value, for every supply whose setting fits its 32 bits
+pub record SentBack (m : ℕ) (s : Supply) (t : Target) (text : List ℕ) : Type 0 where
+  -- the query's line asks the query, and its reply is the text and CR
+  pub asked : heardOf (queryWord t) false ≡ heardAs (One (Ask (queryOf t))) false
+  pub printed : repliedTo m s (One (Ask (queryOf t))) false ≡ text ++ (13 ∷ [])
+  -- the order with that text, after one space, is the order of the very setting
+  pub read : heardOf (orderWord t ++ (32 ∷ text)) false ≡ heardAs (One (Obey (Set t (settingOf t s)))) false
+  -- and under margins and limits it is accepted and leaves the setting
+  pub accepted : Lawful m s → codeOf m s (Obey (Set t (settingOf t s))) ≡ 0
+  pub leaves : Lawful m s → settingOf t (performed m s (Obey (Set t (settingOf t s)))) ≡ settingOf t s
+
+-- a supply whose settings and counts are within their widths, as every supply of the code is
+pub record Sized (s : Supply) : Type 0 where
+  pub setting : (t : Target) → settingOf t s < 2 ^ 32
+  pub volt-count : s .«volt_count» < 2 ^ 16
+  pub amp-count : s .«amp_count» < 2 ^ 16
+
+-- bytes of reply for each character of a line and for its CR
+abbrev pub rate : ℕ
+rate = 3
+
+-- ROOM: a line that is not spoiled draws at most rate × (n + 1) bytes of reply; a spoiled one draws C01 and CR
+pub record Room (m : ℕ) (s : Supply) (t : List ℕ) : Type 0 where
+  pub fair : length (repliedTo m s (heardOf t false .asks) (heardOf t false .summed)) ≤ rate * (length t + 1)
+  pub spoiled : length (repliedTo m s (heardOf t true .asks) (heardOf t true .summed)) ≡ 4

@@ -1,0 +1,83 @@
+-- The verdicts on a line in turn, as a list of stages, of which the first that applies decides.
+use Prim.Native.Nat.{ℕ}
+use mathlib.Core.List.{List, [], _∷_}
+use mathlib.Core.Bool.{Bool, true, false, not, _&&_}
+use lib.Dec.{ltb}
+use Rattle.base.specs.Choice.{pick}
+use Rattle.words.specs.Words.{upperAll}
+use Rattle.supply.specs.declared.Act.the-variants.{Nothing}
+use Rattle.command.specs.declared.Asks.{Asks}
+use Rattle.command.specs.declared.Asks.the-variants.{One, Error}
+use Rattle.command.specs.Parameters.{Kind, bare, number, switch, hex, address, unknown, c01, c02, c03, c04, c05, readAs, isEmpty}
+use Rattle.command.specs.Words.{Command, commandOf}
+use Rattle.command.specs.Lines.{hasSum, rightSum, summedPart, wordOf, parameterText}
+
+-- a stage: whether it applies, and what the line then is
+abbrev pub Stage : Type 0
+Stage = Bool × Asks
+
+-- the first stage that applies, or what is asked where none does
+abbrev pub firstOf : List Stage → Asks → Asks
+firstOf [] a = a
+firstOf (e ∷ es) a = pick (e .0) (e .1) (firstOf es a)
+
+-- the line without its sum, its command and its parameter
+abbrev pub bodyOf : List ℕ → List ℕ
+bodyOf t = pick (hasSum t) (summedPart t) t
+
+abbrev pub commandIn : List ℕ → Command
+commandIn t = commandOf (upperAll (wordOf (bodyOf t)))
+
+abbrev pub givenIn : List ℕ → List ℕ
+givenIn t = parameterText (bodyOf t)
+
+abbrev pub isUnknown : Kind → Bool
+isUnknown unknown = true
+isUnknown bare = false
+isUnknown (number k) = false
+isUnknown (switch n) = false
+isUnknown hex = false
+isUnknown address = false
+
+-- a parameter is needed and is absent or empty
+abbrev pub isAbsent : Kind → List ℕ → Bool
+isAbsent unknown x = false
+isAbsent bare x = false
+isAbsent (number k) x = isEmpty x
+isAbsent (switch n) x = isEmpty x
+isAbsent hex x = isEmpty x
+isAbsent address x = isEmpty x
+
+-- it is malformed, or given where none belongs
+abbrev pub isMalformed : Kind → List ℕ → Bool
+isMalformed unknown x = false
+isMalformed bare x = not (isEmpty x)
+isMalformed (number k) x = not (readAs (number k) x .good)
+isMalformed (switch n) x = not (readAs (switch n) x .good)
+isMalformed hex x = not (readAs hex x .good)
+isMalformed address x = not (readAs address x .good)
+
+-- it is an address above 30
+abbrev pub isBeyond : Kind → List ℕ → Bool
+isBeyond unknown x = false
+isBeyond bare x = false
+isBeyond (number k) x = false
+isBeyond (switch n) x = false
+isBeyond hex x = false
+isBeyond address x = ltb 30 (readAs address x .value)
+
+-- what a word takes where its parameter is good
+abbrev pub valueOf : Kind → List ℕ → ℕ
+valueOf k x = readAs k x .value
+
+-- spoiled C01; wrong sum C04; empty OK; unknown word C01; absent C02; malformed C03; and an address above 30 C05
+abbrev pub stages : List ℕ → Bool → List Stage
+stages t spoiled =
+    (spoiled, Error c01) ∷
+    (hasSum t && not (rightSum t), Error c04) ∷
+    (isEmpty (bodyOf t), One Nothing) ∷
+    (isUnknown (commandIn t .kind), commandIn t .fails c01) ∷
+    (isAbsent (commandIn t .kind) (givenIn t), commandIn t .fails c02) ∷
+    (isMalformed (commandIn t .kind) (givenIn t), commandIn t .fails c03) ∷
+    (isBeyond (commandIn t .kind) (givenIn t), commandIn t .fails c05) ∷
+    []

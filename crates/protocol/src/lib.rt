@@ -1,0 +1,1 @@
+// No code: what holds of one line from its characters to its reply, for the plain supply.
