@@ -23,7 +23,7 @@ use Rattle.settings.specs.Settings.{withSetting, stepped}
 use Rattle.events.specs.Events.{falls, linesChanged, sampled, turnedOn, disarmed, pressed, turned}
 use Rattle.orders.specs.Orders.{setCode, orderCode, remote, remoteBy, outDone, fldDone, reset, ordered}
 use Rattle.acts.specs.Acts.{codeOf, clearingQuery, clearingOrder, clearingAct, cleared, acted, closed, performed}
-use Rattle.acts.specs.Releases.{Trip, fold, ovp, isSet, onlyOvp, orderReleases, keyReleases, releases}
+use Rattle.acts.specs.Releases.{Trip, fold, ovp, isSet, isOvp, orderReleases, keyReleases, releases}
 use Rattle.events.proofs.Cases.{lines-law, sample-law, disarm-law}
 use Rattle.supply.proofs.FltBits.{want-off-shut, fold-shut, ovp-shut}
 
@@ -106,7 +106,7 @@ unfolding reset fresh
 reset-clear m fold s = refl
 reset-clear m ovp s = refl
 
-disarmed-trip : (k : Trip) (s : Supply) → isSet k (disarmed s) ≡ (onlyOvp k && isSet k s)
+disarmed-trip : (k : Trip) (s : Supply) → isSet k (disarmed s) ≡ (isOvp k && isSet k s)
 disarmed-trip fold s = rw (← disarm-law s) refl
 disarmed-trip ovp s = rw (← disarm-law s) refl
 
@@ -115,7 +115,7 @@ abbrev linesLeave : Trip → Bool → Bool → Bool → Bool
 linesLeave fold ac so x = not ac && x
 linesLeave ovp ac so x = not so && (not ac && x)
 
-lines-left : (k : Trip) (ac so x : Bool) → linesLeave k ac so x ≡ left (ac || (onlyOvp k && so)) x
+lines-left : (k : Trip) (ac so x : Bool) → linesLeave k ac so x ≡ left (ac || (isOvp k && so)) x
 lines-left fold true so x = refl
 lines-left fold false so x = refl
 lines-left ovp true true x = refl
@@ -129,7 +129,7 @@ output-left true false true x = refl
 output-left true false false x = refl
 output-left false on clear x = refl
 
-fold-left : (k : Trip) (home armed x : Bool) → pick home (pick armed (onlyOvp k && x) x) x ≡ left (not (onlyOvp k) && (home && armed)) x
+fold-left : (k : Trip) (home armed x : Bool) → pick home (pick armed (isOvp k && x) x) x ≡ left (not (isOvp k) && (home && armed)) x
 fold-left fold true true x = refl
 fold-left fold true false x = refl
 fold-left fold false armed x = refl
@@ -154,7 +154,7 @@ or-swap false false = refl
 module _ (m : ℕ) (k : Trip) (s : Supply) where
   lines-trip : (b : ℕ) → isSet k (linesChanged s b) ≡ left (releases m k s (Lines b)) (isSet k s)
   unfolding releases
-  lines-trip b = by-trip (λ j. isSet j (linesChanged s b) ≡ left (falls 1 (s .lines) b || (onlyOvp j && (falls 5 (s .lines) b && s .ast))) (isSet j s))
+  lines-trip b = by-trip (λ j. isSet j (linesChanged s b) ≡ left (falls 1 (s .lines) b || (isOvp j && (falls 5 (s .lines) b && s .ast))) (isSet j s))
       (rw (← lines-law s b) (lines-left fold (falls 1 (s .lines) b) (falls 5 (s .lines) b && s .ast) (s .«fold_trip»)))
       (rw (← lines-law s b) (lines-left ovp (falls 1 (s .lines) b) (falls 5 (s .lines) b && s .ast) (s .«ovp_trip»)))
       k

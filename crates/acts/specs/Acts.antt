@@ -58,7 +58,7 @@ clearingOrder (Fena b) = false
 abbrev pub cleared : Bool → Supply → Supply
 cleared t s = pick t (withFeve 0 s) s
 
--- first stage: what the act does, the registers left alone
+-- first stage: what the act itself does, before FEVE gains
 unfoldable pub acted : ℕ → Supply → Act → Supply
 acted m s (Lines b) = linesChanged s b
 acted m s (Sample v a) = sampled m s v a

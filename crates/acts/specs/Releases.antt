@@ -20,16 +20,16 @@ abbrev pub isSet : Trip → Supply → Bool
 isSet fold s = s .«fold_trip»
 isSet ovp s = s .«ovp_trip»
 
--- is the trip the one that only this release takes
-abbrev pub onlyOvp : Trip → Bool
-onlyOvp fold = false
-onlyOvp ovp = true
+-- is it the OVP trip
+abbrev pub isOvp : Trip → Bool
+isOvp fold = false
+isOvp ovp = true
 
 -- accepted OUT 1; RST; and for FOLD, ARMED going off
 abbrev pub orderReleases : ℕ → Trip → Supply → Order → Bool
 orderReleases m k s (Out true) = eqb (orderCode m s (Out true)) 0
 orderReleases m k s Rst = true
-orderReleases m k s (Fld false) = not (onlyOvp k) && s .armed
+orderReleases m k s (Fld false) = not (isOvp k) && s .armed
 orderReleases m k s (Out false) = false
 orderReleases m k s (Fld true) = false
 orderReleases m k s (Set t n) = false
@@ -42,12 +42,12 @@ orderReleases m k s Cls = false
 -- the OUTPUT key that turns on; and for FOLD, the FOLD key that turns ARMED off
 abbrev pub keyReleases : Trip → Supply → Key → Bool
 keyReleases k s key.Output = eqb (s .mode) 0 && (not (onOf s) && linesClear s)
-keyReleases k s key.Fold = not (onlyOvp k) && (eqb (s .mode) 0 && s .armed)
+keyReleases k s key.Fold = not (isOvp k) && (eqb (s .mode) 0 && s .armed)
 keyReleases k s key.Local = false
 
 -- is the act, on this supply, a release of the trip; AC falling, and for OVP, SO falling under AST, come by LINES
 unfoldable pub releases : ℕ → Trip → Supply → Act → Bool
-releases m k s (Lines b) = falls 1 (s .lines) b || (onlyOvp k && (falls 5 (s .lines) b && s .ast))
+releases m k s (Lines b) = falls 1 (s .lines) b || (isOvp k && (falls 5 (s .lines) b && s .ast))
 releases m k s (Press j) = keyReleases k s j
 releases m k s (Obey o) = orderReleases m k s o
 releases m k s (Sample v a) = false

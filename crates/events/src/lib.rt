@@ -1,4 +1,4 @@
-// What rear contacts, a sample, keys and the knob do to a supply.
+// What LINES, a sample, keys and the knob do to a supply.
 ghost use mathlib.Core.Path.{_≡_};
 ghost use mathlib.Core.Bool.{true, false};
 ghost use lib.Dec.{eqb};

@@ -17,7 +17,7 @@ allDigits (b ∷ bs) = isDigit b && allDigits bs
 abbrev pub digitOf : ℕ → ℕ
 digitOf b = (b - 48) % 10
 
--- the value of the first n characters of s: that of the run without its last, times ten, plus the last; an empty run is 0
+-- the value of the first n characters of s, by the last digit: ten times the value of those before it, and the digit
 unfoldable pub runValue : List ℕ → ℕ → ℕ
 runValue s zero = 0
 runValue s (suc n) = runValue s n * 10 + digitOf (getD s n 0)

@@ -1,4 +1,4 @@
--- A number of the serial line: 1 to 12 characters, digits, at least one of them, and at most one point.
+-- A number of the serial line: what is well formed, and its value in units of a decimal.
 use Prim.Native.Nat.{ℕ, suc, _+_, _*_, _/_, _^_}
 use mathlib.Core.List.{List, [], _∷_}
 use mathlib.Core.Bool.{Bool, true, false, _&&_}

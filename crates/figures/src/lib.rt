@@ -82,7 +82,7 @@ pub fn part_after(s: &[u8], p: usize) -> &[u8]
 }
 
 // 10 to the k-th power.
-pub fn pow10(k: usize) -> u64
+fn pow10(k: usize) -> u64
     requires { ⌜ k ≤ 19 ⌝ }
     ensures { λ r. ⌜ r ≡ 10 ^ k ⌝ }
 {
@@ -90,7 +90,7 @@ pub fn pow10(k: usize) -> u64
 }
 
 // a in whole units of d: the one place that says what becomes of digits below a unit.
-pub fn whole_units(a: u64, d: u64) -> u64
+fn whole_units(a: u64, d: u64) -> u64
     requires { ⌜ (a < 2 ^ 62) × (0 < d) × (d < 2 ^ 62) ⌝ }
     ensures { λ r. ⌜ r ≡ wholeUnits a d ⌝ }
 {
@@ -98,7 +98,7 @@ pub fn whole_units(a: u64, d: u64) -> u64
 }
 
 // The digits w before a point and f after it, in units of the k-th decimal.
-pub fn scaled_value(w: &[u8], f: &[u8], k: usize) -> u64
+fn scaled_value(w: &[u8], f: &[u8], k: usize) -> u64
     requires { ⌜ (length (now w) + length (now f) ≤ 12) × (k ≤ 6) ⌝ }
     ensures { λ r. ⌜ r ≡ scaledValue k (now (w .entry)) (now (f .entry)) ⌝ }
 {
@@ -145,14 +145,14 @@ fn no_number() -> Number
 }
 
 // Whether b is a hexadecimal digit of either case.
-pub fn is_hex(b: u8) -> bool
+fn is_hex(b: u8) -> bool
     ensures { λ r. ⌜ r ≡ isHex b ⌝ }
 {
     (48 <= b) & (b <= 57) | ((65 <= b) & (b <= 70) | (97 <= b) & (b <= 102))
 }
 
 // What a hexadecimal digit of either case stands for.
-pub fn hex_of(b: u8) -> u64
+fn hex_of(b: u8) -> u64
     ensures { λ r. ⌜ (r ≡ hexOf b) × (r < 256) ⌝ }
 {
     if b <= 57 {
@@ -212,7 +212,7 @@ pub fn put_hex(buf: &mut [u8], at: usize, b: u8) -> usize
 }
 
 // Places the last n decimal digits of v.
-pub fn put_fixed(buf: &mut [u8], at: usize, n: usize, v: u64) -> usize
+fn put_fixed(buf: &mut [u8], at: usize, n: usize, v: u64) -> usize
     ensures { λ r. ⌜ Put (now (buf .entry)) at (fixed n v) r (now (buf .exit)) ⌝ }
 {
     if n == 0 {
@@ -224,7 +224,7 @@ pub fn put_fixed(buf: &mut [u8], at: usize, n: usize, v: u64) -> usize
 }
 
 // Places v with no needless leading zero, where n digits are enough for it.
-pub fn put_shortest(buf: &mut [u8], at: usize, n: usize, v: u64) -> usize
+fn put_shortest(buf: &mut [u8], at: usize, n: usize, v: u64) -> usize
     ensures { λ r. ⌜ Put (now (buf .entry)) at (shortest n v) r (now (buf .exit)) ⌝ }
 {
     if n == 0 {

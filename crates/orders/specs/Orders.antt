@@ -19,7 +19,7 @@ use Rattle.events.specs.Events.{turnedOn, disarmed}
 abbrev pub above105 : ℕ → ℕ → Bool
 above105 rating n = ltb (21 * rating) (20 * n)
 
--- PV n, PC n, OVP n and UVL n: the first check that fails gives the code, 0 if none does
+-- a figure for a setting: its checks in turn, the first that fails giving the code
 unfoldable pub setCode : ℕ → Supply → Target → ℕ → ℕ
 setCode m s Pv n =
     pick (above105 (limitsOf m .volts) n) c05
@@ -49,7 +49,7 @@ orderCode m s (Fena b) = 0
 orderCode m s Cls = 0
 orderCode m s Rst = 0
 
--- an accepted PV, PC or OUT turns MODE 0 into 1
+-- taking remote control: MODE 0 becomes 1
 unfoldable pub remote : Supply → Supply
 remote s = withMode (pick (eqb (s .mode) 0) 1 (s .mode)) s
 
@@ -69,7 +69,7 @@ unfoldable pub fldDone : Bool → Supply → Supply
 fldDone true s = withArmed true s
 fldDone false s = pick (s .armed) (disarmed s) s
 
--- RST: fresh, but LINES, FENA and counts stay, and MODE is 1
+-- RST: as fitted, in remote control, with LINES, FENA and the counts kept
 unfoldable pub reset : ℕ → Supply → Supply
 reset m s = withLines (s .lines) (withFena (s .fena) (withCounts (s .«volt_count») (s .«amp_count») (withMode 1 (fresh m))))
 

@@ -172,7 +172,7 @@ fn reset_supply(model: u8, s: Supply) -> Supply
     t
 }
 
-fn all_ovp(model: u8, s: Supply) -> Supply
+fn ovm_done(model: u8, s: Supply) -> Supply
     ensures { λ r. ⌜ r ≡ withOvp (limitsOf model .«ovp_most») s ⌝ }
 {
     let l = models::limits_of(model);
@@ -205,13 +205,14 @@ fn put_fena(s: Supply, b: u8) -> Supply
     t
 }
 
-// What an accepted order does. An accepted figure has 32 bits at most, so its low 32 bits are all of it.
+// What an accepted order does; of a refused one the answer is free, and nobody asks.
+// An accepted figure has 32 bits at most, so its low 32 bits are all of it.
 pub fn order_done(model: u8, s: Supply, o: Order) -> Supply
     ensures { λ r. ⌜ (orderCode model s o ≡ 0 → r ≡ ordered model s o) ⌝ }
 {
     match o {
         Order::Set(t, n) => put_setting(s, t, (n % 0x1_0000_0000) as u32),
-        Order::Ovm => all_ovp(model, s),
+        Order::Ovm => ovm_done(model, s),
         Order::Out(on) => put_out(s, on),
         Order::Fld(on) => put_fld(s, on),
         Order::Ast(on) => put_ast(s, on),

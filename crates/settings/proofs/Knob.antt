@@ -12,7 +12,7 @@ use Rattle.supply.specs.declared.Supply.{Supply}
 use Rattle.supply.specs.declared.Target.{Target}
 use Rattle.supply.specs.declared.Target.the-variants.{Pv, Pc, Ovp, Uvl}
 use Rattle.settings.specs.Settings.{settingOf, withSetting, leastOf, mostOf, signedOf, natPart, nearestIn, stepped}
-use Rattle.settings.specs.Lawful.{Within, Lawful, Admissible}
+use Rattle.settings.specs.Lawful.{Within, Lawful, Admissible, Nearest}
 
 -- a quotient rounded up is at most x just where the product says so
 module _ (q n x : ℕ) (some : 0 < q) where
@@ -106,11 +106,6 @@ module _ (lo hi : ℕ) (some : lo ≤ hi) where
   unfolding nearestIn
   nearest-is (pos k) y l u = rw (dist-below (min hi (max lo k)) k, dist-below y k) (omega arith)
   nearest-is (negsuc k) y l u = omega arith
-
--- THE KNOB: on a lawful supply the value is admissible, and no admissible value is nearer to the exact signed sum
-pub record Nearest (m : ℕ) (s : Supply) (t : Target) (raw x : ℕ) : Type 0 where
-  pub admissible : Admissible m s t x
-  pub nearest : (y : ℕ) → Admissible m s t y → natAbs (pos x -ℤ (pos (settingOf t s) +ℤ signedOf raw)) ≤ natAbs (pos y -ℤ (pos (settingOf t s) +ℤ signedOf raw))
 
 pub stepped-nearest : (m : ℕ) (s : Supply) (t : Target) (raw : ℕ) → Lawful m s → Nearest m s t raw (stepped m s t raw)
 unfolding stepped

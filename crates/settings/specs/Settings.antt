@@ -21,7 +21,7 @@ withSetting Pc x s = withPc x s
 withSetting Ovp x s = withOvp x s
 withSetting Uvl x s = withUvl x s
 
--- the least and the greatest value of a setting that keeps the margins and the model's limits, the other settings as they are
+-- where a setting may stand, the other settings as they are: from the least to the most value that margins and limits allow
 unfoldable pub leastOf : ℕ → Supply → Target → ℕ
 leastOf m s Pv = (20 * s .uvl + 18) / 19
 leastOf m s Pc = 0
@@ -47,6 +47,6 @@ natPart (negsuc n) = 0
 unfoldable pub nearestIn : ℕ → ℕ → ℤ → ℕ
 nearestIn lo hi z = min hi (max lo (natPart z))
 
--- a setting with a step added in exact arithmetic, brought to the nearest value that keeps margins and limits
+-- a setting after a knob step: the exact sum, brought into where the setting may stand
 unfoldable pub stepped : ℕ → Supply → Target → ℕ → ℕ
 stepped m s t raw = nearestIn (leastOf m s t) (mostOf m s t) (pos (settingOf t s) +ℤ signedOf raw)

@@ -6,7 +6,7 @@ ghost use Rattle.settings.specs.Settings.{settingOf, withSetting, leastO
 use supply::Supply;
 use supply::Target;
 
-pub fn setting(s: Supply, t: Target) -> u32
+fn setting(s: Supply, t: Target) -> u32
     ensures { λ r. ⌜ r ≡ settingOf t s ⌝ }
 {
     match t {
@@ -54,7 +54,7 @@ fn larger(a: u64, b: u64) -> u64
 }
 
 // The least value of a setting that keeps margins and limits.
-pub fn least_of(model: u8, s: Supply, t: Target) -> u64
+fn least_of(model: u8, s: Supply, t: Target) -> u64
     ensures { λ r. ⌜ r ≡ leastOf model s t ⌝ }
 {
     let l = models::limits_of(model);
@@ -67,7 +67,7 @@ pub fn least_of(model: u8, s: Supply, t: Target) -> u64
 }
 
 // The greatest one.
-pub fn most_of(model: u8, s: Supply, t: Target) -> u64
+fn most_of(model: u8, s: Supply, t: Target) -> u64
     ensures { λ r. ⌜ r ≡ mostOf model s t ⌝ }
 {
     let l = models::limits_of(model);

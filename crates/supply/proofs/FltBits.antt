@@ -8,7 +8,7 @@ use Rattle.base.specs.Choice.{bit}
 use Rattle.base.specs.Bits.{bitAt}
 use Rattle.base.proofs.Bits.{bit-or, bit-and}
 use Rattle.supply.specs.declared.Supply.{Supply}
-use Rattle.supply.specs.Flt.{fltOf, onOf}
+use Rattle.supply.specs.Flt.{fltOf, onOf, FltBits}
 
 -- bit k of FLT, from the four parts that it is made of
 flt-bit : (k : ℕ) (s : Supply) → bitAt k (fltOf s) ≡ ((((bitAt k (s .lines) && bitAt k 0xA6) || bitAt k (bit (s .«fold_trip») * 8)) || bitAt k (bit (s .«ovp_trip») * 16)) || bitAt k (bit (not (s .want)) * 64))
@@ -47,17 +47,6 @@ each-bit false false true true = record { bit0 = refl; bit1 = refl; bit2 = refl;
 each-bit false false true false = record { bit0 = refl; bit1 = refl; bit2 = refl; bit3 = refl; bit4 = refl; bit5 = refl; bit6 = refl; bit7 = refl }
 each-bit false false false true = record { bit0 = refl; bit1 = refl; bit2 = refl; bit3 = refl; bit4 = refl; bit5 = refl; bit6 = refl; bit7 = refl }
 each-bit false false false false = record { bit0 = refl; bit1 = refl; bit2 = refl; bit3 = refl; bit4 = refl; bit5 = refl; bit6 = refl; bit7 = refl }
-
--- FLT BIT BY BIT
-pub record FltBits (s : Supply) : Type 0 where
-  pub none : bitAt 0 (fltOf s) ≡ false
-  pub ac : bitAt 1 (fltOf s) ≡ bitAt 1 (s .lines)
-  pub otp : bitAt 2 (fltOf s) ≡ bitAt 2 (s .lines)
-  pub fold : bitAt 3 (fltOf s) ≡ s .«fold_trip»
-  pub ovp : bitAt 4 (fltOf s) ≡ s .«ovp_trip»
-  pub so : bitAt 5 (fltOf s) ≡ bitAt 5 (s .lines)
-  pub want-off : bitAt 6 (fltOf s) ≡ not (s .want)
-  pub ena : bitAt 7 (fltOf s) ≡ bitAt 7 (s .lines)
 
 pub flt-bits : (s : Supply) → FltBits s
 flt-bits s =

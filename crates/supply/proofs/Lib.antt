@@ -1,1 +1,2 @@
 pub mod FltBits
+pub mod Gains

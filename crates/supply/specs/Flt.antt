@@ -1,22 +1,24 @@
--- FLT and what is read off it: these are the only windows on LINES and the trips for the output, and on the current.
+-- FLT and what is read off it: nothing else looks at LINES and the trips for the output, or compares the current.
 use Prim.Native.Nat.{ℕ, _*_, _-_}
-use mathlib.Core.Bool.{Bool, not}
+use mathlib.Core.Path.{_≡_}
+use mathlib.Core.Bool.{Bool, false, not, _&&_, _||_}
 use lib.Bits.{bitAnd, bitOr}
 use lib.Dec.{leb, eqb}
 use Rattle.base.specs.Choice.{bit}
+use Rattle.base.specs.Bits.{bitAt}
 use Rattle.models.specs.Models.{ampReading}
 use Rattle.supply.specs.declared.Supply.{Supply}
 use Rattle.supply.specs.With.{withFeve}
 
--- FLT: bits 1 AC, 2 OTP, 5 SO and 7 ENA are copied from LINES (the mask 0xA6); 3 FOLD trip, 4 OVP trip, 6 WANT off; bit 0 is 0
+-- FLT: LINES through the mask 0xA6 (AC 1, OTP 2, SO 5, ENA 7), the FOLD trip at bit 3, the OVP trip at 4, and at 6 that WANT is off
 unfoldable pub fltOf : Supply → ℕ
 fltOf s = bitOr (bitOr (bitOr (bitAnd (s .lines) 0xA6) (bit (s .«fold_trip») * 8)) (bit (s .«ovp_trip») * 16)) (bit (not (s .want)) * 64)
 
--- the output is on when FLT is 0
+-- no fault bit: the output is on
 unfoldable pub onOf : Supply → Bool
 onOf s = eqb (fltOf s) 0
 
--- nothing from the rear contacts keeps the output from being turned on
+-- LINES is 0, so that the output may be turned on
 unfoldable pub linesClear : Supply → Bool
 linesClear s = eqb (s .lines) 0
 
@@ -24,6 +26,21 @@ linesClear s = eqb (s .lines) 0
 unfoldable pub inLimit : ℕ → Supply → Bool
 inLimit m s = leb (s .pc) (ampReading m (s .«amp_count»))
 
--- after an event: FEVE gains every FLT bit that rose from 0 to 1 and is set in FENA as it stood before
+-- the second stage of an act: a fault bit that was 0 and now is 1 goes into FEVE where FENA, as it was, enables it
 unfoldable pub settled : Supply → Supply → Supply
 settled before after = withFeve (bitOr (after .feve) (bitAnd (bitAnd (fltOf after) (255 - fltOf before)) (before .fena))) after
+
+-- FLT BIT BY BIT
+pub record FltBits (s : Supply) : Type 0 where
+  pub none : bitAt 0 (fltOf s) ≡ false
+  pub ac : bitAt 1 (fltOf s) ≡ bitAt 1 (s .lines)
+  pub otp : bitAt 2 (fltOf s) ≡ bitAt 2 (s .lines)
+  pub fold : bitAt 3 (fltOf s) ≡ s .«fold_trip»
+  pub ovp : bitAt 4 (fltOf s) ≡ s .«ovp_trip»
+  pub so : bitAt 5 (fltOf s) ≡ bitAt 5 (s .lines)
+  pub want-off : bitAt 6 (fltOf s) ≡ not (s .want)
+  pub ena : bitAt 7 (fltOf s) ≡ bitAt 7 (s .lines)
+
+-- FEVE BIT BY BIT: bit k after an event is set where it was, or where the fault bit rose and was enabled before
+abbrev pub FeveBit : Supply → Supply → ℕ → Type 0
+FeveBit before after k = bitAt k (settled before after .feve) ≡ (bitAt k (after .feve) || ((bitAt k (fltOf after) && not (bitAt k (fltOf before))) && bitAt k (before .fena)))

@@ -4,7 +4,7 @@ use mathlib.Core.Bool.{false}
 use Rattle.models.specs.Models.{limitsOf}
 use Rattle.supply.specs.declared.Supply.{Supply}
 
--- fresh: OVP most, all else 0
+-- as fitted: OVP at its most, everything else 0 or off
 unfoldable pub fresh : ℕ → Supply
 fresh m =
     record {
@@ -25,7 +25,7 @@ fresh m =
       «amp_count» = 0;
     }
 
--- a code is a byte that reads as its name in hexadecimal, and 0 is an accepted order
+-- a code is a byte whose two hexadecimal digits are the letter and the number of its name; 0 is an accepted order
 abbrev pub c05 : ℕ
 c05 = 0xC5
 

@@ -116,7 +116,7 @@ pub fn is_on(s: Supply) -> bool
     flt(s) == 0
 }
 
-// Nothing from the rear contacts keeps the output from being turned on.
+// LINES is 0, so that the output may be turned on.
 pub fn lines_clear(s: Supply) -> bool
     ensures { λ r. ⌜ r ≡ linesClear s ⌝ }
 {

@@ -58,7 +58,7 @@ module _ (M : Plain) (u : Setup) (a : ℕ) where
 
 module _ (M : Plain) (K : Trips M) (I : ℕ → M .State → Type 0) where
   open Plain M using (State, step, fresh, grammar)
-  open Trips K using (isSet, isOn, releases)
+  open Trips K using (Trip, isSet, isOn, releases)
 
   pub demand3 : (u : Setup) → ((a : ℕ) → fitted u a ≡ true → Laws M K I (modelAt u a)) → (calls : List Call) → Demand3 M K I u calls
   demand3 u laws calls a f =
@@ -67,7 +67,7 @@ module _ (M : Plain) (K : Trips M) (I : ℕ → M .State → Type 0) where
       let within : (es : List Entry) → I m (plain M m es) = λ es. holds-throughout (step m) (I m) (L .keeps) (fresh m) es (L .starts) in
       record {
         ends = isolation M u a f calls;
-        alike = λ v calls₂ same e. isolation M u a f calls ∙ rw (same, e) (sym (isolation M v a (rw same at f) calls₂));
+        alike = λ v calls₂ b same e. isolation M u a f calls ∙ rw (same, e) (sym (isolation M v b (rw same at f) calls₂));
         invariant = λ past rest q. rw (isolation M u a f past) (within (shareOf grammar u past a));
         entries-invariant = λ past rest q. within past;
         entries-off = λ k past rest q t. tripped-off (step m) (isSet k) (releases m k) (L .held k) isOn (L .shut k) (fresh m) past t;

@@ -11,7 +11,7 @@ use Rattle.base.specs.Text.{codes}
 use Rattle.wire.specs.Wire.{Entry, field, line, Class, select, faulty, global, other, byte, event, Parsed, refuse, accept, Grammar, Call, modelAt, parse, byteOn}
 use Rattle.wire.specs.Share.{typed, brought, shareOf}
 use Rattle.wire.specs.Rack.{Plain, Answer, refused, done, callOf, run, slot}
-use Rattle.wire.specs.Laws.{ovp, Trips, Laws}
+use Rattle.wire.specs.Laws.{Trips, Laws}
 use Rattle.wire.specs.Demand3.{TrippedBy}
 use Rattle.wire.specs.declared.Setup.{Setup}
 use Rattle.wire.proofs.Demand3.{demand3}
@@ -125,9 +125,12 @@ answer : told (callOf toy (run toy setup list) (serial (codes "A2\rX\r"))) ≡ 6
 unfolding told callOf parse byteOn setup list serial grammar class reading isField trips frees
 answer = refl
 
+data Kind : Type 0 where
+  over : Kind
+
 -- THE THEOREM, put to the toy: its trips, what holds of its states, its laws
 abbrev trip : Trips toy
-trip = record { isSet = λ k s. s .trip; isOn = λ s. not (s .trip); releases = λ m k s e. frees e }
+trip = record { Trip = Kind; isSet = λ k s. s .trip; isOn = λ s. not (s .trip); releases = λ m k s e. frees e }
 
 within : ℕ → Toy → Type 0
 within m s = s .fields ≤ s .entries
@@ -148,7 +151,7 @@ laws m =
     }
 
 -- slot 2 is tripped by its first entry; the global and the spoiled line after it are no releases
-tripped-2 : TrippedBy toy trip 5 ovp (shareOf grammar setup list 2)
+tripped-2 : TrippedBy toy trip 5 over (shareOf grammar setup list 2)
 unfolding trips frees
 tripped-2 =
     record {
@@ -162,4 +165,4 @@ tripped-2 =
 
 off-2 : trip .isOn (slot toy (run toy setup list) 2) ≡ false
 unfolding setup
-off-2 = demand3 toy trip within setup (λ a f. laws (modelAt setup a)) list 2 refl .calls-off ovp list [] (sym (append-nil list)) tripped-2
+off-2 = demand3 toy trip within setup (λ a f. laws (modelAt setup a)) list 2 refl .calls-off over list [] (sym (append-nil list)) tripped-2

@@ -7,55 +7,54 @@ use Rattle.wire.specs.Machine.{Tripped}
 use Rattle.wire.specs.Wire.{Entry, Call, modelAt, fitted}
 use Rattle.wire.specs.Share.{shareOf}
 use Rattle.wire.specs.Rack.{Plain, run, slot, plain}
-use Rattle.wire.specs.Laws.{Trip, Trips}
+use Rattle.wire.specs.Laws.{Trips}
 use Rattle.wire.specs.declared.Setup.{Setup}
 
 -- on the entries es a fresh supply of the model m is tripped and not released: one of them sets its trip k, and no later one is a
 -- release of k
-abbrev pub TrippedBy : (M : Plain) → Trips M → ℕ → Trip → List Entry → Type 0
+abbrev pub TrippedBy : (M : Plain) (K : Trips M) → ℕ → K .Trip → List Entry → Type 0
 TrippedBy M K m k es = Tripped (M .step m) (M .fresh m) (K .isSet k) (K .releases m k) es
 
 module _ (M : Plain) (K : Trips M) (I : ℕ → M .State → Type 0) where
   open Plain M using (step, grammar)
-  open Trips K using (isSet, isOn, releases)
+  open Trips K using (Trip, isSet, isOn, releases)
 
   -- of one fitted address
   pub record AtSlot (u : Setup) (calls : List Call) (a : ℕ) : Type 0 where
-    -- "Demand 3 compares the plain supply's whole state": the slot ends as the plain supply of its model does on the address's share
+    -- the whole state: the slot ends as the plain supply of its model, from fresh, does on the address's share
     pub ends : slot M (run M u calls) a ≡ plain M (modelAt u a) (shareOf grammar u calls a)
-    -- "Shares are alike when they hold the same entries in the same order": with alike shares and the same model, slots end alike
+    -- alike: any slot of any rack with the same model and the same entries in its share ends in the same state
     pub alike :
-        (v : Setup) (calls₂ : List Call)
-        → modelAt u a ≡ modelAt v a
-        → shareOf grammar u calls a ≡ shareOf grammar v calls₂ a
-        → slot M (run M u calls) a ≡ slot M (run M v calls₂) a
-    -- "Margins", and the limits of each setting: they hold after every call of the list
+        (v : Setup) (calls₂ : List Call) (b : ℕ)
+        → modelAt u a ≡ modelAt v b
+        → shareOf grammar u calls a ≡ shareOf grammar v calls₂ b
+        → slot M (run M u calls) a ≡ slot M (run M v calls₂) b
+    -- margins and limits hold after every beginning of the list of calls
     pub invariant : (past rest : List Call) → calls ≡ past ++ rest → I (modelAt u a) (slot M (run M u past) a)
     -- and after every entry of the share
     pub entries-invariant :
         (past rest : List Entry)
         → shareOf grammar u calls a ≡ past ++ rest
         → I (modelAt u a) (plain M (modelAt u a) past)
-    -- "The output is off after that entry and after each later one before the first that is a release of that trip"
+    -- over the share: off after the entry that trips, and so on until an entry comes that releases that trip
     pub entries-off :
         (k : Trip) (past rest : List Entry)
         → shareOf grammar u calls a ≡ past ++ rest
         → TrippedBy M K (modelAt u a) k past
         → isOn (plain M (modelAt u a) past) ≡ false
-    -- "In the rack it is off after every call from the one with the trip up to the one with that release, this last not counted,
-    -- or to the list's end where none comes"
+    -- over the calls: off in the rack after the call that trips, and after each later one whose share brings no such release
     pub calls-off :
         (k : Trip) (past rest : List Call)
         → calls ≡ past ++ rest
         → TrippedBy M K (modelAt u a) k (shareOf grammar u past a)
         → isOn (slot M (run M u past) a) ≡ false
-    -- "Releases of a trip": each entry that is one leaves the trip clear
+    -- each entry that is a release of a trip leaves that trip clear
     pub freed :
         (k : Trip) (past : List Entry) (e : Entry) (rest : List Entry)
         → shareOf grammar u calls a ≡ past ++ e ∷ rest
         → releases (modelAt u a) k (plain M (modelAt u a) past) e ≡ true
         → isSet k (step (modelAt u a) (plain M (modelAt u a) past) e) ≡ false
 
-  -- "All this is a single claim about the whole list"
+  -- one claim about the whole list, for every fitted address
   abbrev pub Demand3 : Setup → List Call → Type 0
   Demand3 u calls = (a : ℕ) → fitted u a ≡ true → AtSlot u calls a

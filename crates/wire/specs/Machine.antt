@@ -1,4 +1,4 @@
--- Any machine that inputs move from state to state: what it means that it is tripped. And lists of inputs, sorted.
+-- Any machine that inputs move from state to state: what it means that it is tripped. And lists of inputs, filtered.
 use mathlib.Core.Path.{_≡_}
 use mathlib.Core.Bool.{Bool, true, not, _&&_}
 use mathlib.Core.List.{List, [], _∷_, _++_, foldl}

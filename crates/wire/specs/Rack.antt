@@ -72,7 +72,7 @@ module _ (M : Plain) where
   after r (refused n) = r
   after r (done q used t) = q
 
-  -- a list of calls: the first gets the rack r, each later one the rack that the call before returned or left
+  -- a list of calls on the rack r, handed on from call to call
   abbrev pub runFrom : Rack State → List Call → Rack State
   runFrom r [] = r
   runFrom r (c ∷ cs) = runFrom (after r (callOf r c)) cs
@@ -92,6 +92,7 @@ module _ (M : Plain) where
   abbrev pub plain : ℕ → List Entry → State
   plain m es = foldl (step m) (fresh m) es
 
-  -- the plain supplies at all addresses, acting on each other as the setup says, from fresh, on a list of deliveries
+  -- the plain supplies at all addresses, acting on each other by `next`, from fresh, on a list of deliveries; where slots come to act
+  -- on each other, what a group does has to be stated from the stages of a supply and shown equal to this
   abbrev pub together : Setup → List Delivery → ℕ → State
   together u ds = foldl (next u) (λ a. fresh (modelAt u a)) ds

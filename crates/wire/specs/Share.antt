@@ -1,5 +1,6 @@
 -- An address's share of a list of calls, from the calls and the setup alone: the paper read a second time, in passes over the
--- one stream of all accepted fields. The rack's own way through the stream, in Wire.antt, is not used here.
+-- one stream of all accepted fields. How bytes become lines and who is selected is read anew here, and not by the rack's own way
+-- in Wire.antt; which calls are accepted and what class a line is come from the grammar, as for the rack.
 use mathlib.Core.Bool.{Bool, true, false}
 use mathlib.Core.List.{List, [], _∷_, _++_, foldl}
 use Prim.Native.Nat.{ℕ, _-_}
@@ -15,7 +16,7 @@ abbrev pub items : Parsed → List Item
 items (refuse n) = []
 items (accept used is) = is
 
--- "The serial bytes of all accepted fields form one stream": that of a list of calls, the other fields at their places in it
+-- the one stream of a list of calls: serial bytes of accepted fields, the other accepted fields at their places among them
 abbrev pub stream : Grammar → Setup → List Call → List Item
 stream γ u calls = flat (λ c. items (parse γ u c)) calls
 
@@ -24,8 +25,8 @@ pub record Typed : Type 0 where
   pub kept : List ℕ
   pub spoiled : Bool
 
--- one byte more of a line, not its CR: LF is ignored, backspace drops the last character kept; a line holds 64 characters, a
--- further one is dropped and spoils the line
+-- one byte more of a line, not its CR: LF does nothing, a backspace takes the last kept character back, and past 64 kept
+-- characters a byte is lost and the line spoiled
 abbrev pub typing : Typed → ℕ → Typed
 typing t b =
     pick (eqb b 10) t
@@ -87,6 +88,6 @@ forSlot u a (say t) = []
 abbrev pub shareOf : Grammar → Setup → List Call → ℕ → List Entry
 shareOf γ u calls a = flat (forSlot u a) (brought γ u calls)
 
--- the joint share of a group: what touches it, a global line once, every other entry with the slot that it went to
+-- the joint share of a group: the deliveries that touch it, each line for all supplies being one of them
 abbrev pub jointShare : Grammar → Setup → List Call → (Delivery → Bool) → List Delivery
 jointShare γ u calls touches = keep touches (brought γ u calls)

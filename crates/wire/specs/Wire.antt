@@ -18,7 +18,7 @@ modelAt u a = getD (u .models) a 255
 abbrev pub fitted : Setup → ℕ → Bool
 fitted u a = not (eqb (modelAt u a) 255)
 
--- 01's entry: a field's tag and payload, or a line's kept characters at its CR together with whether it is spoiled
+-- an entry (01's term): a field of tags 2 to 5, or a line as it stood at its CR with its spoiled flag
 pub data Entry : Type 0 where
   field : ℕ → List ℕ → Entry
   line : List ℕ → Bool → Entry
@@ -99,8 +99,8 @@ byClass u w global = ending (w .sel) (all (line (w .kept) (w .spoiled)) ∷ [])
 byClass u w other = ending (w .sel) (given (fitted u (w .sel)) (one (w .sel) (line (w .kept) (w .spoiled))))
 
 module _ (γ : Grammar) (u : Setup) where
-  -- a serial byte: LF is ignored, backspace drops the last character kept, CR ends the line; a line holds 64 characters, a
-  -- further one is dropped and spoils the line
+  -- a serial byte: LF (10) does nothing, backspace (8) takes the last kept character back, CR (13) ends the line; past 64 kept
+  -- characters a byte is lost and the line spoiled
   unfoldable pub byteOn : Wire → ℕ → Sent
   byteOn w b =
       pick (eqb b 10) (quiet w)

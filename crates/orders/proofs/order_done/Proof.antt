@@ -17,8 +17,8 @@ put-setting-requires c κs = search needs
 enum-told : tie.Need-enum-told
 enum-told c = search needs
 
-all-ovp-requires : tie.Need-all-ovp-requires
-all-ovp-requires c κs = search needs
+ovm-done-requires : tie.Need-ovm-done-requires
+ovm-done-requires c κs = search needs
 
 enum-known-o-2 : tie.Need-enum-known-o-2
 enum-known-o-2 c = search needs
@@ -65,7 +65,7 @@ returns c = λ e. rw (c .before .before .o .given .1) (rw (set-low _ _ _ _ (rw (
 
 returns-2 : tie.Need-returns-2
 unfolding ordered
-returns-2 c = λ e. rw (c .before .enum-told .given .1) (c .all-ovp .ensures)
+returns-2 c = λ e. rw (c .before .enum-told .given .1) (c .ovm-done .ensures)
 
 returns-3 : tie.Need-returns-3
 unfolding ordered
@@ -103,7 +103,7 @@ order-done-spec =
     cast-put-setting
     put-setting-requires
     enum-told
-    all-ovp-requires
+    ovm-done-requires
     enum-known-o-2
     put-out-requires
     enum-known-o-3
