@@ -1,0 +1,65 @@
+-- What each kind of byte does to the line of the code, as the definitions see it.
+use mathlib.Core.Path.{_≡_, refl}
+use mathlib.Core.Bool.{Bool, true, false}
+use mathlib.Core.List.{List, [], _∷_, _++_}
+use Prim.Native.Nat.{ℕ, _+_, _-_, _≤_, _<_}
+use native.Mathlib.Omega.{arith}
+use native.Mathlib.Numerals.{add-one}
+use lib.Dec.{eqb, ltb}
+use lib.ListN.{length, take, set}
+use lib.Seq.{length-take-le, take-take, take-suc-set}
+use borrow.Author.Tests.{eq-eqb, ne-eqb, lt-ltb, le-ltb}
+use Rattle.base.specs.Choice.{pick}
+use Rattle.wire.specs.declared.Setup.{Setup}
+use Rattle.wire.specs.Wire.{Wire, Grammar, quiet, byteOn}
+use Rattle.serial.specs.declared.Line.{Line}
+use Rattle.serial.specs.View.{wireOf, charOn, Typed}
+
+module _ (l : Line) (b : ℕ) (wide : length (l .kept) ≡ 64) (h : l .count ≤ 64) where
+  pub typed-lf : b ≡ 10 → Typed l b l
+  unfolding charOn
+  typed-lf q = record { small = h; is = rw (eq-eqb b 10 q) }
+
+  pub typed-back : (b ≡ 10 → ⊥) → b ≡ 8 → Typed l b (record { kept = l .kept; count = l .count - 1; spoiled = l .spoiled; selected = l .selected })
+  unfolding charOn
+  typed-back p q =
+      record {
+        small = omega arith;
+        is = rw (ne-eqb b 10 p, eq-eqb b 8 q, length-take-le (l .count) (l .kept) (omega arith), take-take (l .count - 1) (l .count) (l .kept) (omega arith));
+      }
+
+  pub typed-none : (b ≡ 10 → ⊥) → b ≡ 8 → l .count ≤ 0 → Typed l b l
+  unfolding charOn
+  typed-none p q z =
+      let e : l .count ≡ 0 = omega arith in
+      record { small = h; is = rw (ne-eqb b 10 p, eq-eqb b 8 q, e) }
+
+  pub typed-add : (b ≡ 10 → ⊥) → (b ≡ 8 → ⊥) → l .count < 64 → Typed l b (record { kept = set (l .kept) (l .count) b; count = l .count + 1; spoiled = l .spoiled; selected = l .selected })
+  unfolding charOn
+  typed-add p q s =
+      record {
+        small = omega arith;
+        is = rw (ne-eqb b 10 p, ne-eqb b 8 q, length-take-le (l .count) (l .kept) (omega arith), lt-ltb (l .count) 64 s, add-one, take-suc-set (l .kept) (l .count) b (omega arith));
+      }
+
+  pub typed-full : (b ≡ 10 → ⊥) → (b ≡ 8 → ⊥) → 64 ≤ l .count → Typed l b (record { kept = l .kept; count = l .count; spoiled = true; selected = l .selected })
+  unfolding charOn
+  typed-full p q s = record { small = h; is = rw (ne-eqb b 10 p, ne-eqb b 8 q, length-take-le (l .count) (l .kept) (omega arith), le-ltb (l .count) 64 s) }
+
+-- a byte that is no CR, on the shared line: nothing is handed out
+pub char-on : (γ : Grammar) (u : Setup) (w : Wire) (b : ℕ) → eqb b 13 ≡ false → byteOn γ u w b ≡ quiet (charOn w b)
+unfolding byteOn charOn
+char-on γ u w b n = rw n (byKind (eqb b 10) (eqb b 8) (ltb (length (w .kept)) 64))
+  where
+    byKind : (lf bs room : Bool) →
+        pick lf (quiet w)
+        (pick bs (quiet (record { kept = take (length (w .kept) - 1) (w .kept); spoiled = w .spoiled; sel = w .sel }))
+        (pick room (quiet (record { kept = w .kept ++ (b ∷ []); spoiled = w .spoiled; sel = w .sel })) (quiet (record { kept = w .kept; spoiled = true; sel = w .sel }))))
+        ≡ quiet
+        (pick lf w
+        (pick bs (record { kept = take (length (w .kept) - 1) (w .kept); spoiled = w .spoiled; sel = w .sel })
+        (pick room (record { kept = w .kept ++ (b ∷ []); spoiled = w .spoiled; sel = w .sel }) (record { kept = w .kept; spoiled = true; sel = w .sel }))))
+    byKind true bs room = refl
+    byKind false true room = refl
+    byKind false false true = refl
+    byKind false false false = refl
