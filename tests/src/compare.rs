@@ -1,0 +1,223 @@
+//! Compares a program with the reference model on generated inputs, shrinks what differs, and
+//! checks the reference model against its own second reading.
+
+use std::sync::atomic::{AtomicBool, AtomicU64, Ordering};
+use std::sync::Mutex;
+
+use crate::generate::{generate, Draw, Input};
+use crate::outside;
+use crate::program;
+use crate::rack::Rack;
+use crate::script;
+use crate::share::{self, Tally};
+
+const WORKERS: usize = 2;
+/// Shrinking stops after so many tries.
+const MOST_TRIES: usize = 4_000;
+
+/// The seed of the input with this number; neighbouring runs have no input in common.
+fn input_seed(seed: u64, number: u64) -> u64 {
+    Draw::new(seed).any() ^ number.wrapping_mul(0xD1B5_4A32_D192_ED03)
+}
+
+/// Whether the program answers this input otherwise than the reference does.
+fn differs(program: &str, input: &[u8]) -> bool {
+    outside::run(program, input) != Ok(program::run(input))
+}
+
+/// The first input found on which the two differ, shrunk, as a report; none if all are alike.
+pub fn with_program(program: &str, count: u64, seed: u64) -> Option<String> {
+    let next = AtomicU64::new(0);
+    let stop = AtomicBool::new(false);
+    let found: Mutex<Option<(u64, Input)>> = Mutex::new(None);
+    let work = || loop {
+        let number = next.fetch_add(1, Ordering::Relaxed);
+        if number >= count || stop.load(Ordering::Relaxed) {
+            return;
+        }
+        let input = generate(input_seed(seed, number));
+        if differs(program, &input.bytes()) {
+            stop.store(true, Ordering::Relaxed);
+            found.lock().expect("no worker panics").get_or_insert((number, input));
+        }
+    };
+    std::thread::scope(|scope| {
+        for _ in 0..WORKERS {
+            scope.spawn(work);
+        }
+    });
+    let (number, input) = found.into_inner().expect("no worker panics")?;
+    let small = shrink(input, |input| differs(program, &input.bytes()));
+    Some(report(program, number, &small.bytes()))
+}
+
+fn report(program: &str, number: u64, input: &[u8]) -> String {
+    let theirs = match outside::run(program, input) {
+        Ok(printed) => String::from_utf8_lossy(&printed).into_owned(),
+        Err(reason) => format!("({reason})\n"),
+    };
+    let ours = String::from_utf8_lossy(&program::run(input)).into_owned();
+    let text = script::write(input);
+    let (theirs, ours) = (theirs.trim_end(), ours.trim_end());
+    format!(
+        "input {number} differs; shrunk to:\n{text}\n\
+         --- the program prints:\n{theirs}\n--- the reference prints:\n{ours}"
+    )
+}
+
+/// The smallest list found on which the fault still shows: fields dropped first, bytes after.
+pub fn shrink(input: Input, faulty: impl Fn(&Input) -> bool) -> Input {
+    let mut best = input;
+    let mut tries = 0;
+    loop {
+        let size = best.bytes().len();
+        drop_parts(&mut best, &faulty, &mut tries);
+        join_serial(&mut best, &faulty, &mut tries);
+        shorten_parts(&mut best, &faulty, &mut tries);
+        empty_slots(&mut best, &faulty, &mut tries);
+        if best.bytes().len() == size || tries >= MOST_TRIES {
+            return best;
+        }
+    }
+}
+
+/// Takes the smaller list if the fault still shows in it.
+fn try_instead(
+    best: &mut Input,
+    smaller: Input,
+    faulty: &impl Fn(&Input) -> bool,
+    tries: &mut usize,
+) -> bool {
+    *tries += 1;
+    let taken = *tries <= MOST_TRIES && faulty(&smaller);
+    if taken {
+        *best = smaller;
+    }
+    taken
+}
+
+/// Drops runs of fields, from half the list down to single ones.
+fn drop_parts(best: &mut Input, faulty: &impl Fn(&Input) -> bool, tries: &mut usize) {
+    let mut run = best.parts.len() / 2;
+    while run > 0 {
+        let mut at = 1;
+        while at < best.parts.len() {
+            let mut smaller = best.clone();
+            smaller.parts.drain(at..(at + run).min(best.parts.len()));
+            if !try_instead(best, smaller, faulty, tries) {
+                at += run;
+            }
+        }
+        run /= 2;
+    }
+}
+
+/// Serial fields next to each other become as few as their bytes allow.
+fn join_serial(best: &mut Input, faulty: &impl Fn(&Input) -> bool, tries: &mut usize) {
+    let mut at = 1;
+    while at + 1 < best.parts.len() {
+        let (one, other) = (&best.parts[at], &best.parts[at + 1]);
+        let whole = |part: &[u8]| {
+            part.first() == Some(&1) && script::field_length(part) == Some(part.len())
+        };
+        let joinable = whole(one) && whole(other) && one.len() + other.len() <= 3 + 3 + 16;
+        if joinable {
+            let mut joined = [&one[..], &other[3..]].concat();
+            joined[2] += other[2];
+            let mut smaller = best.clone();
+            smaller.parts.splice(at..at + 2, [joined]);
+            if try_instead(best, smaller, faulty, tries) {
+                continue;
+            }
+        }
+        at += 1;
+    }
+}
+
+/// Takes single bytes out of serial fields and off the end of anything else.
+fn shorten_parts(best: &mut Input, faulty: &impl Fn(&Input) -> bool, tries: &mut usize) {
+    for part in 1..best.parts.len() {
+        let mut at = best.parts[part].len();
+        while at > 0 {
+            at -= 1;
+            if let Some(shorter) = without_byte(&best.parts[part], at) {
+                let mut smaller = best.clone();
+                smaller.parts[part] = shorter;
+                try_instead(best, smaller, faulty, tries);
+            }
+        }
+    }
+}
+
+/// The field without the byte at this place, its length put right; none where that makes no field.
+fn without_byte(part: &[u8], at: usize) -> Option<Vec<u8>> {
+    let mut shorter = part.to_vec();
+    let serial = part.len() > 4 && part[0] == 1 && usize::from(part[2]) + 3 == part.len();
+    if serial && at >= 3 {
+        shorter.remove(at);
+        shorter[2] -= 1;
+        return Some(shorter);
+    }
+    let whole = script::field_length(part) == Some(part.len());
+    if whole || at + 1 != part.len() {
+        return None;
+    }
+    shorter.pop();
+    Some(shorter)
+}
+
+/// Empties slots that the fault does not need.
+fn empty_slots(best: &mut Input, faulty: &impl Fn(&Input) -> bool, tries: &mut usize) {
+    for slot in 0..best.parts[0].len() {
+        if best.parts[0][slot] != crate::rack::EMPTY {
+            let mut smaller = best.clone();
+            smaller.parts[0][slot] = crate::rack::EMPTY;
+            try_instead(best, smaller, faulty, tries);
+        }
+    }
+}
+
+/// Checks the reference on generated lists of calls against the second reading of the shares.
+pub fn with_itself(count: u64, seed: u64) -> Result<Tally, String> {
+    let mut tally = Tally::default();
+    for number in 0..count {
+        let input = generate(input_seed(seed, number));
+        let fitting = input.parts[0].clone();
+        if Rack::fit(&fitting).is_err() {
+            continue;
+        }
+        let calls = input.calls(&mut Draw::new(number));
+        match share::check(&fitting, &calls) {
+            Ok(more) => tally.add(more),
+            Err(what) => {
+                let text = script::write(&input.bytes());
+                return Err(format!(
+                    "list {number}: {what}\nthe list before its odd calls:\n{text}"
+                ));
+            }
+        }
+    }
+    Ok(tally)
+}
+
+/// How often each reply came in generated inputs, so that one sees what they reach.
+pub fn reply_counts(count: u64, seed: u64) -> Vec<(String, usize)> {
+    let mut counts = std::collections::BTreeMap::new();
+    for number in 0..count {
+        let printed = program::run(&generate(input_seed(seed, number)).bytes());
+        for line in String::from_utf8_lossy(&printed).lines() {
+            *counts.entry(reply_name(line).to_string()).or_insert(0) += 1;
+        }
+    }
+    counts.into_iter().collect()
+}
+
+/// Replies by name, with all figures and all bytes as one kind each.
+fn reply_name(line: &str) -> &str {
+    match line.split('$').next().unwrap_or("") {
+        word if word.contains('.') => "a figure",
+        word @ ("00" | "CC") => word,
+        word if word.len() == 2 && u8::from_str_radix(word, 16).is_ok() => "a byte above 00",
+        word => word,
+    }
+}

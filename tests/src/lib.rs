@@ -1,0 +1,16 @@
+//! An independent model of the rack controller, used to check the real one from outside.
+//! It is written from the scope paper alone and shares no code with the controller.
+
+pub mod cases;
+pub mod compare;
+pub mod generate;
+pub mod line;
+pub mod outside;
+pub mod program;
+pub mod rack;
+pub mod script;
+pub mod share;
+pub mod supply;
+pub mod table;
+pub mod trial;
+pub mod trials;

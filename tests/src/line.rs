@@ -1,0 +1,223 @@
+//! One serial line: from the characters kept at its CR to what it says, whom it speaks to,
+//! what the supply makes of it and how the reply looks on the wire.
+
+use crate::supply::{Code, Mode, Order, Query, Supply};
+
+/// A line holds this many characters; a further one spoils it.
+pub const LINE_ROOM: usize = 64;
+
+/// Whom a line speaks to.
+#[derive(Clone, Copy, Debug, PartialEq, Eq)]
+pub enum Whom {
+    Address,
+    Everyone,
+    Selected,
+}
+
+#[derive(Clone, Copy, Debug, PartialEq, Eq)]
+pub enum Said {
+    Nothing,
+    Select(usize),
+    Order(Order),
+    Query(Query),
+}
+
+/// What a finished line comes to before any supply has seen it.
+#[derive(Clone, Copy, Debug, PartialEq, Eq)]
+pub struct Reading {
+    pub whom: Whom,
+    /// The line carried a right checksum, so its replies carry one too.
+    pub summed: bool,
+    pub said: Result<Said, Code>,
+}
+
+/// The sum of all bytes, modulo 256.
+pub fn checksum(bytes: &[u8]) -> u8 {
+    bytes.iter().fold(0, |sum: u8, byte| sum.wrapping_add(*byte))
+}
+
+/// Clause "Verdicts in turn", up to but not including the table of orders.
+pub fn read(kept: &[u8], spoiled: bool) -> Reading {
+    if spoiled {
+        return Reading { whom: Whom::Selected, summed: false, said: Err(Code::C01) };
+    }
+    let (text, summed) = match cut_sum(kept) {
+        Sum::Absent => (kept, false),
+        Sum::Right(text) => (text, true),
+        Sum::Wrong => return Reading { whom: Whom::Selected, summed: false, said: Err(Code::C04) },
+    };
+    let (whom, said) = understand(text);
+    Reading { whom, summed, said }
+}
+
+enum Sum<'a> {
+    Absent,
+    Right(&'a [u8]),
+    Wrong,
+}
+
+/// A $ as third last character makes the last two a checksum of what stands before it.
+fn cut_sum(kept: &[u8]) -> Sum<'_> {
+    let Some(at) = kept.len().checked_sub(3).filter(|at| kept[*at] == b'$') else {
+        return Sum::Absent;
+    };
+    match two_hexadecimal_digits(&kept[at + 1..]) {
+        Some(sum) if sum == checksum(&kept[..at]) => Sum::Right(&kept[..at]),
+        _ => Sum::Wrong,
+    }
+}
+
+fn two_hexadecimal_digits(text: &[u8]) -> Option<u8> {
+    let [high, low] = text else { return None };
+    let digit = |byte: &u8| char::from(*byte).to_digit(16);
+    Some((digit(high)? * 16 + digit(low)?) as u8)
+}
+
+/// The word up to the first space, the parameter after it; an empty parameter is none.
+fn understand(text: &[u8]) -> (Whom, Result<Said, Code>) {
+    if text.is_empty() {
+        return (Whom::Selected, Ok(Said::Nothing));
+    }
+    let end = text.iter().position(|byte| *byte == b' ').unwrap_or(text.len());
+    let word = text[..end].to_ascii_uppercase();
+    let parameter = text.get(end + 1..).filter(|rest| !rest.is_empty());
+    match word.as_slice() {
+        b"ADR" => (Whom::Address, need(parameter).and_then(slot_number)),
+        b"GPV" => (Whom::Everyone, order(b"PV", parameter)),
+        b"GPC" => (Whom::Everyone, order(b"PC", parameter)),
+        b"GOUT" => (Whom::Everyone, order(b"OUT", parameter)),
+        b"GRST" => (Whom::Everyone, order(b"RST", parameter)),
+        _ => match query(&word) {
+            Some(query) => (Whom::Selected, bare(parameter, Said::Query(query))),
+            None => (Whom::Selected, order(&word, parameter)),
+        },
+    }
+}
+
+fn query(word: &[u8]) -> Option<Query> {
+    Some(match word {
+        b"PV?" => Query::Pv,
+        b"PC?" => Query::Pc,
+        b"OVP?" => Query::Ovp,
+        b"UVL?" => Query::Uvl,
+        b"MV?" => Query::Mv,
+        b"MC?" => Query::Mc,
+        b"OUT?" => Query::Out,
+        b"FLD?" => Query::Fld,
+        b"AST?" => Query::Ast,
+        b"RMT?" => Query::Rmt,
+        b"MODE?" => Query::Mode,
+        b"FLT?" => Query::Flt,
+        b"FENA?" => Query::Fena,
+        b"FEVE?" => Query::Feve,
+        _ => return None,
+    })
+}
+
+fn order(word: &[u8], parameter: Option<&[u8]>) -> Result<Said, Code> {
+    const VOLT_DECIMALS: usize = 4;
+    const AMPERE_DECIMALS: usize = 3;
+    let order = match word {
+        b"PV" => Order::Pv(number(need(parameter)?, VOLT_DECIMALS)?),
+        b"PC" => Order::Pc(number(need(parameter)?, AMPERE_DECIMALS)?),
+        b"OVP" => Order::Ovp(number(need(parameter)?, VOLT_DECIMALS)?),
+        b"UVL" => Order::Uvl(number(need(parameter)?, VOLT_DECIMALS)?),
+        b"OUT" => Order::Out(switch(need(parameter)?)?),
+        b"FLD" => Order::Fld(switch(need(parameter)?)?),
+        b"AST" => Order::Ast(switch(need(parameter)?)?),
+        b"RMT" => Order::Rmt(mode(need(parameter)?)?),
+        b"FENA" => Order::Fena(two_hexadecimal_digits(need(parameter)?).ok_or(Code::C03)?),
+        b"OVM" => return bare(parameter, Said::Order(Order::Ovm)),
+        b"CLS" => return bare(parameter, Said::Order(Order::Cls)),
+        b"RST" => return bare(parameter, Said::Order(Order::Rst)),
+        _ => return Err(Code::C01),
+    };
+    Ok(Said::Order(order))
+}
+
+fn need(parameter: Option<&[u8]>) -> Result<&[u8], Code> {
+    parameter.ok_or(Code::C02)
+}
+
+/// For a word that takes no parameter.
+fn bare(parameter: Option<&[u8]>, said: Said) -> Result<Said, Code> {
+    match parameter {
+        Some(_) => Err(Code::C03),
+        None => Ok(said),
+    }
+}
+
+fn switch(parameter: &[u8]) -> Result<bool, Code> {
+    match parameter {
+        b"0" => Ok(false),
+        b"1" => Ok(true),
+        _ => Err(Code::C03),
+    }
+}
+
+fn mode(parameter: &[u8]) -> Result<Mode, Code> {
+    match parameter {
+        b"0" => Ok(Mode::Local),
+        b"1" => Ok(Mode::Remote),
+        b"2" => Ok(Mode::LockedOut),
+        _ => Err(Code::C03),
+    }
+}
+
+/// Clause "ADR n": one or two digits, and no slot above 30.
+fn slot_number(parameter: &[u8]) -> Result<Said, Code> {
+    if parameter.len() > 2 || !parameter.iter().all(u8::is_ascii_digit) {
+        return Err(Code::C03);
+    }
+    match run_value(parameter) {
+        slot @ 0..=30 => Ok(Said::Select(slot as usize)),
+        _ => Err(Code::C05),
+    }
+}
+
+/// Clause "A number n": 1 to 12 characters, digits with at most one point among them.
+fn number(text: &[u8], decimals: usize) -> Result<i64, Code> {
+    let point = text.iter().position(|byte| *byte == b'.').unwrap_or(text.len());
+    let whole = &text[..point];
+    let fraction = text.get(point + 1..).unwrap_or(&[]);
+    let digits = [whole, fraction].concat();
+    let well_formed = (1..=12).contains(&text.len())
+        && !digits.is_empty()
+        && digits.iter().all(u8::is_ascii_digit);
+    if !well_formed {
+        return Err(Code::C03);
+    }
+    // Pad to the wanted decimals, and cut what lies below a tick or mA.
+    let mut places = fraction.to_vec();
+    places.resize(decimals, b'0');
+    Ok(run_value(&[whole, &places].concat()))
+}
+
+/// A run's value is that of the run without its last digit, times ten, plus the last.
+fn run_value(digits: &[u8]) -> i64 {
+    match digits.split_last() {
+        None => 0,
+        Some((last, before)) => run_value(before) * 10 + i64::from(last - b'0'),
+    }
+}
+
+/// What the plain supply makes of a line that reached it, as the words of the reply.
+pub fn obey(supply: &mut Supply, said: Result<Said, Code>) -> String {
+    let done = said.and_then(|said| match said {
+        Said::Order(order) => supply.order(order).map(|()| "OK".to_string()),
+        Said::Query(query) => Ok(supply.ask(query)),
+        Said::Nothing | Said::Select(_) => Ok("OK".to_string()),
+    });
+    done.unwrap_or_else(|code| code.text().to_string())
+}
+
+/// Clause "A reply": the words, a checksum if the line had a right one, and a CR.
+pub fn reply(words: &str, summed: bool) -> Vec<u8> {
+    let mut bytes = words.as_bytes().to_vec();
+    if summed {
+        let sum = checksum(&bytes);
+        bytes.extend(format!("${sum:02X}").bytes());
+    }
+    bytes.push(b'\r');
+    bytes
+}

@@ -1,0 +1,170 @@
+//! The rack: 31 slots on one serial line, driven by fields. A call takes the first field of
+//! the bytes lent to it, or refuses with a number and leaves everything as it was.
+
+use crate::line::{self, Reading, Said, Whom, LINE_ROOM};
+use crate::supply::{Event, Key, Supply, Target, LINE_BITS, MODELS};
+
+pub const SLOTS: usize = 31;
+pub const EMPTY: u8 = 255;
+/// A reply buffer below this size is refused.
+pub const LEAST_ROOM: usize = 512;
+
+// The refusals, in the order in which they are tested.
+pub const SMALL_BUFFER: u8 = 1;
+pub const NO_HEADER: u8 = 2;
+pub const BAD_TAG: u8 = 3;
+pub const BAD_LENGTH: u8 = 4;
+pub const CUT_SHORT: u8 = 5;
+pub const NO_SUPPLY: u8 = 6;
+pub const BAD_VALUE: u8 = 7;
+pub const BAD_FITTING: u8 = 8;
+
+#[derive(Clone, Debug, PartialEq, Eq)]
+pub struct Rack {
+    pub slots: Vec<Option<Supply>>,
+    pub selected: Option<usize>,
+    /// The characters of the line that has not met its CR yet.
+    pub kept: Vec<u8>,
+    pub spoiled: bool,
+}
+
+impl Rack {
+    /// Clause "A fresh rack", from a fitting list of one byte for each slot.
+    pub fn fit(list: &[u8]) -> Result<Rack, u8> {
+        let known = |byte: &u8| usize::from(*byte) < MODELS.len() || *byte == EMPTY;
+        if list.len() != SLOTS || !list.iter().all(known) {
+            return Err(BAD_FITTING);
+        }
+        let supply = |byte: &u8| (*byte != EMPTY).then(|| Supply::fresh(*byte));
+        Ok(Rack {
+            slots: list.iter().map(supply).collect(),
+            selected: None,
+            kept: Vec::new(),
+            spoiled: false,
+        })
+    }
+
+    /// Takes the first field; answers the bytes used and the replies, or the refusal's number.
+    pub fn call(&mut self, bytes: &[u8], room: usize) -> Result<(usize, Vec<u8>), u8> {
+        if room < LEAST_ROOM {
+            return Err(SMALL_BUFFER);
+        }
+        let [tag, high, low, rest @ ..] = bytes else {
+            return Err(NO_HEADER);
+        };
+        if !(1..=5).contains(tag) {
+            return Err(BAD_TAG);
+        }
+        let length = usize::from(u16::from_be_bytes([*high, *low]));
+        if !length_allowed(*tag, length) {
+            return Err(BAD_LENGTH);
+        }
+        let payload = rest.get(..length).ok_or(CUT_SHORT)?;
+        let replies = match tag {
+            1 => payload.iter().flat_map(|byte| self.hear(*byte)).collect(),
+            _ => self.bring_event(*tag, payload)?,
+        };
+        Ok((3 + length, replies))
+    }
+
+    /// Tags 2 to 5: the address is judged before what follows it.
+    fn bring_event(&mut self, tag: u8, payload: &[u8]) -> Result<Vec<u8>, u8> {
+        let slot = self.slots.get_mut(usize::from(payload[0]));
+        let supply = slot.and_then(Option::as_mut).ok_or(NO_SUPPLY)?;
+        supply.event(event_of(tag, &payload[1..]).ok_or(BAD_VALUE)?);
+        Ok(Vec::new())
+    }
+
+    /// Clause "The shared line": one byte of the stream; a reply can come only at a CR.
+    fn hear(&mut self, byte: u8) -> Vec<u8> {
+        match byte {
+            b'\r' => {
+                let kept = std::mem::take(&mut self.kept);
+                let spoiled = std::mem::take(&mut self.spoiled);
+                return self.end_line(line::read(&kept, spoiled));
+            }
+            b'\n' => {}
+            0x08 => {
+                self.kept.pop();
+            }
+            _ if self.kept.len() < LINE_ROOM => self.kept.push(byte),
+            _ => self.spoiled = true,
+        }
+        Vec::new()
+    }
+
+    fn end_line(&mut self, reading: Reading) -> Vec<u8> {
+        match reading.whom {
+            Whom::Address => self.address(reading),
+            Whom::Everyone => self.tell_everyone(reading),
+            Whom::Selected => self.tell_selected(reading),
+        }
+    }
+
+    /// Clause "ADR n": an error is answered by the slot selected so far, which stays selected.
+    fn address(&mut self, reading: Reading) -> Vec<u8> {
+        if let Ok(Said::Select(slot)) = reading.said {
+            self.selected = self.slots[slot].is_some().then_some(slot);
+        }
+        self.tell_selected(reading)
+    }
+
+    /// Clause "GPV, GPC, GOUT, GRST": each supply judges for itself and nobody replies.
+    fn tell_everyone(&mut self, reading: Reading) -> Vec<u8> {
+        if reading.said.is_ok() {
+            for supply in self.slots.iter_mut().flatten() {
+                line::obey(supply, reading.said);
+            }
+        }
+        Vec::new()
+    }
+
+    fn tell_selected(&mut self, reading: Reading) -> Vec<u8> {
+        let Some(slot) = self.selected else {
+            return Vec::new();
+        };
+        match &mut self.slots[slot] {
+            Some(supply) => line::reply(&line::obey(supply, reading.said), reading.summed),
+            None => Vec::new(),
+        }
+    }
+}
+
+/// Clause "A field": what each tag's payload measures.
+pub fn length_allowed(tag: u8, length: usize) -> bool {
+    match tag {
+        1 => (1..=16).contains(&length),
+        2 | 4 => length == 2,
+        3 => length == 6,
+        5 => length == 5,
+        _ => false,
+    }
+}
+
+/// What stands after the address; none where a key, target or LINES bit is not known.
+fn event_of(tag: u8, rest: &[u8]) -> Option<Event> {
+    match (tag, rest) {
+        (2, [key]) => Some(Event::Key(match key {
+            0 => Key::Output,
+            1 => Key::Fold,
+            2 => Key::Local,
+            _ => return None,
+        })),
+        (3, [target, step @ ..]) => {
+            let target = match target {
+                0 => Target::Pv,
+                1 => Target::Pc,
+                2 => Target::Ovp,
+                3 => Target::Uvl,
+                _ => return None,
+            };
+            Some(Event::Knob(target, i32::from_be_bytes(step.try_into().ok()?)))
+        }
+        (4, [lines]) => (lines & !LINE_BITS == 0).then_some(Event::Lines(*lines)),
+        (5, [a, b, c, d]) => Some(Event::Sample {
+            volts: u16::from_be_bytes([*a, *b]),
+            amperes: u16::from_be_bytes([*c, *d]),
+        }),
+        _ => None,
+    }
+}

@@ -1,0 +1,533 @@
+//! The plain supply: one power supply by itself, without rack, slot or serial line.
+//! Volts are whole ticks of 0.1 mV and amperes whole mA, so every figure here is exact.
+
+/// One row of the table of models, in ticks and mA.
+#[derive(Debug, PartialEq, Eq)]
+pub struct Model {
+    pub rated_volts: i64,
+    pub rated_amperes: i64,
+    pub ovp_least: i64,
+    pub ovp_most: i64,
+    pub uvl_most: i64,
+}
+
+/// A row written in tenths of a volt and of an ampere; every figure of the table is whole there.
+const fn row(volts: i64, amperes: i64, ovp_least: i64, ovp_most: i64, uvl_most: i64) -> Model {
+    const TICKS: i64 = 1_000;
+    const MILLIAMPERES: i64 = 100;
+    Model {
+        rated_volts: volts * TICKS,
+        rated_amperes: amperes * MILLIAMPERES,
+        ovp_least: ovp_least * TICKS,
+        ovp_most: ovp_most * TICKS,
+        uvl_most: uvl_most * TICKS,
+    }
+}
+
+/// Clause "Units and models": rated V, rated A, OVP least, OVP most, UVL most.
+pub const MODELS: [Model; 12] = [
+    row(60, 1000, 5, 75, 57),
+    row(80, 900, 5, 100, 76),
+    row(125, 600, 10, 150, 119),
+    row(200, 380, 10, 240, 190),
+    row(300, 250, 20, 360, 285),
+    row(400, 190, 20, 440, 380),
+    row(600, 125, 50, 660, 570),
+    row(800, 95, 50, 880, 760),
+    row(1000, 75, 50, 1100, 950),
+    row(1500, 50, 50, 1650, 1420),
+    row(3000, 25, 50, 3300, 2850),
+    row(6000, 13, 50, 6600, 5700),
+];
+
+impl Model {
+    /// PV and PC may go to 105 % of the rating, which is a whole tick or mA for every model.
+    pub fn pv_most(&self) -> i64 {
+        self.rated_volts * 105 / 100
+    }
+
+    pub fn pc_most(&self) -> i64 {
+        self.rated_amperes * 105 / 100
+    }
+}
+
+// Clause "FLT": where each cause stands in the byte.
+pub const AC: u8 = 1 << 1;
+pub const OTP: u8 = 1 << 2;
+pub const FOLD: u8 = 1 << 3;
+pub const OVP: u8 = 1 << 4;
+pub const SO: u8 = 1 << 5;
+pub const WANT_OFF: u8 = 1 << 6;
+pub const ENA: u8 = 1 << 7;
+/// The bits that a LINES byte may have.
+pub const LINE_BITS: u8 = AC | OTP | SO | ENA;
+
+#[derive(Clone, Copy, Debug, PartialEq, Eq)]
+pub enum Mode {
+    Local,
+    Remote,
+    LockedOut,
+}
+
+#[derive(Clone, Copy, Debug, PartialEq, Eq)]
+pub enum Key {
+    Output,
+    Fold,
+    Local,
+}
+
+/// What the knob turns.
+#[derive(Clone, Copy, Debug, PartialEq, Eq)]
+pub enum Target {
+    Pv,
+    Pc,
+    Ovp,
+    Uvl,
+}
+
+/// What an accepted field of tags 2 to 5 brings.
+#[derive(Clone, Copy, Debug, PartialEq, Eq)]
+pub enum Event {
+    Key(Key),
+    Knob(Target, i32),
+    Lines(u8),
+    Sample { volts: u16, amperes: u16 },
+}
+
+/// An order line with its parameter read, in ticks or mA.
+#[derive(Clone, Copy, Debug, PartialEq, Eq)]
+pub enum Order {
+    Pv(i64),
+    Pc(i64),
+    Ovp(i64),
+    Ovm,
+    Uvl(i64),
+    Out(bool),
+    Fld(bool),
+    Ast(bool),
+    Rmt(Mode),
+    Fena(u8),
+    Cls,
+    Rst,
+}
+
+#[derive(Clone, Copy, Debug, PartialEq, Eq)]
+pub enum Query {
+    Pv,
+    Pc,
+    Ovp,
+    Uvl,
+    Mv,
+    Mc,
+    Out,
+    Fld,
+    Ast,
+    Rmt,
+    Mode,
+    Flt,
+    Fena,
+    Feve,
+}
+
+#[derive(Clone, Copy, Debug, PartialEq, Eq)]
+pub enum Code {
+    C01,
+    C02,
+    C03,
+    C04,
+    C05,
+    E01,
+    E02,
+    E04,
+    E06,
+    E07,
+}
+
+impl Code {
+    pub fn text(self) -> &'static str {
+        match self {
+            Code::C01 => "C01",
+            Code::C02 => "C02",
+            Code::C03 => "C03",
+            Code::C04 => "C04",
+            Code::C05 => "C05",
+            Code::E01 => "E01",
+            Code::E02 => "E02",
+            Code::E04 => "E04",
+            Code::E06 => "E06",
+            Code::E07 => "E07",
+        }
+    }
+}
+
+/// Which trips an entry releases, whether or not they stand.
+#[derive(Clone, Copy, Debug, Default, PartialEq, Eq)]
+pub struct Releases {
+    pub fold: bool,
+    pub ovp: bool,
+}
+
+impl Releases {
+    const BOTH: Releases = Releases { fold: true, ovp: true };
+    const NONE: Releases = Releases { fold: false, ovp: false };
+}
+
+/// The whole state of one supply.
+#[derive(Clone, Debug, PartialEq, Eq)]
+pub struct Supply {
+    pub model: u8,
+    pub pv: i64,
+    pub pc: i64,
+    pub ovp: i64,
+    pub uvl: i64,
+    pub want: bool,
+    pub armed: bool,
+    pub ast: bool,
+    pub mode: Mode,
+    pub lines: u8,
+    pub fold_trip: bool,
+    pub ovp_trip: bool,
+    pub fena: u8,
+    pub feve: u8,
+    pub volt_count: u16,
+    pub ampere_count: u16,
+}
+
+impl Supply {
+    /// Clause "Fresh": OVP at its most, all else 0.
+    pub fn fresh(model: u8) -> Supply {
+        Supply {
+            model,
+            pv: 0,
+            pc: 0,
+            ovp: MODELS[usize::from(model)].ovp_most,
+            uvl: 0,
+            want: false,
+            armed: false,
+            ast: false,
+            mode: Mode::Local,
+            lines: 0,
+            fold_trip: false,
+            ovp_trip: false,
+            fena: 0,
+            feve: 0,
+            volt_count: 0,
+            ampere_count: 0,
+        }
+    }
+
+    pub fn limits(&self) -> &'static Model {
+        &MODELS[usize::from(self.model)]
+    }
+
+    /// Clause "FLT": worked out from the state, never stored.
+    pub fn flt(&self) -> u8 {
+        let mut flt = self.lines & LINE_BITS;
+        if self.fold_trip {
+            flt |= FOLD;
+        }
+        if self.ovp_trip {
+            flt |= OVP;
+        }
+        if !self.want {
+            flt |= WANT_OFF;
+        }
+        flt
+    }
+
+    pub fn output_on(&self) -> bool {
+        self.flt() == 0
+    }
+
+    /// Clause "Margins" with the ranges named beside it.
+    pub fn within_limits(&self) -> bool {
+        let model = self.limits();
+        let margins = 20 * self.uvl <= 19 * self.pv && 21 * self.pv <= 20 * self.ovp;
+        margins
+            && (0..=model.pv_most()).contains(&self.pv)
+            && (0..=model.pc_most()).contains(&self.pc)
+            && (0..=model.uvl_most).contains(&self.uvl)
+            && (model.ovp_least..=model.ovp_most).contains(&self.ovp)
+    }
+
+    /// Clause "An event": FEVE takes what rose and was enabled before the event.
+    fn keep_risen_faults(&mut self, flt_before: u8, fena_before: u8) {
+        self.feve |= self.flt() & !flt_before & fena_before;
+    }
+
+    pub fn event(&mut self, event: Event) {
+        let (flt, fena) = (self.flt(), self.fena);
+        match event {
+            Event::Key(key) => self.press(key),
+            Event::Knob(target, step) => self.turn(target, step),
+            Event::Lines(lines) => self.set_lines(lines),
+            Event::Sample { volts, amperes } => self.sample(volts, amperes),
+        }
+        self.keep_risen_faults(flt, fena);
+    }
+
+    /// Clause "Lines event": its three sentences hold side by side, each judged on the change.
+    fn set_lines(&mut self, new: u8) {
+        let risen = new & !self.lines;
+        let fallen = self.lines & !new;
+        self.lines = new;
+        if risen != 0 && !self.ast {
+            self.want = false;
+        }
+        if fallen & AC != 0 {
+            self.clear_trips();
+            if self.mode == Mode::LockedOut {
+                self.mode = Mode::Remote;
+            }
+        }
+        if fallen & SO != 0 && self.ast {
+            self.ovp_trip = false;
+        }
+    }
+
+    fn clear_trips(&mut self) {
+        self.fold_trip = false;
+        self.ovp_trip = false;
+    }
+
+    /// Clause "Sample event": a count of 50,000 is the rating; the rest below a unit is cut.
+    fn reading(count: u16, rating: i64) -> i64 {
+        i64::from(count) * rating / 50_000
+    }
+
+    pub fn volt_reading(&self) -> i64 {
+        Supply::reading(self.volt_count, self.limits().rated_volts)
+    }
+
+    pub fn ampere_reading(&self) -> i64 {
+        Supply::reading(self.ampere_count, self.limits().rated_amperes)
+    }
+
+    fn sample(&mut self, volts: u16, amperes: u16) {
+        let was_on = self.output_on();
+        self.volt_count = volts;
+        self.ampere_count = amperes;
+        if !was_on {
+            return;
+        }
+        if self.volt_reading() >= self.ovp {
+            self.ovp_trip = true;
+        } else if self.armed && self.ampere_reading() >= self.pc {
+            self.fold_trip = true;
+        }
+    }
+
+    /// Clause "Keys": only in MODE 0, but for LOCAL, which only works in MODE 1.
+    fn press(&mut self, key: Key) {
+        match (key, self.mode) {
+            (Key::Output, Mode::Local) => self.press_output(),
+            (Key::Fold, Mode::Local) if self.armed => self.disarm(),
+            (Key::Fold, Mode::Local) => self.armed = true,
+            (Key::Local, Mode::Remote) => self.mode = Mode::Local,
+            _ => {}
+        }
+    }
+
+    fn press_output(&mut self) {
+        if self.output_on() {
+            self.want = false;
+        } else if self.lines == 0 {
+            self.clear_trips();
+            self.want = true;
+        }
+    }
+
+    /// ARMED goes off; a standing FOLD trip goes with it, and then the output is ordered off.
+    fn disarm(&mut self) {
+        self.armed = false;
+        if self.fold_trip {
+            self.fold_trip = false;
+            self.want = false;
+        }
+    }
+
+    /// The least and the most that one setting may have while the others stay as they are.
+    pub fn range(&self, target: Target) -> (i64, i64) {
+        let model = self.limits();
+        match target {
+            Target::Pv => (divide_up(20 * self.uvl, 19), model.pv_most().min(20 * self.ovp / 21)),
+            Target::Pc => (0, model.pc_most()),
+            Target::Ovp => (model.ovp_least.max(divide_up(21 * self.pv, 20)), model.ovp_most),
+            Target::Uvl => (0, model.uvl_most.min(19 * self.pv / 20)),
+        }
+    }
+
+    pub fn setting(&mut self, target: Target) -> &mut i64 {
+        match target {
+            Target::Pv => &mut self.pv,
+            Target::Pc => &mut self.pc,
+            Target::Ovp => &mut self.ovp,
+            Target::Uvl => &mut self.uvl,
+        }
+    }
+
+    /// Clause "Knob": the exact sum, then the nearest value that is allowed.
+    fn turn(&mut self, target: Target, step: i32) {
+        if self.mode != Mode::Local {
+            return;
+        }
+        let (least, most) = self.range(target);
+        let setting = self.setting(target);
+        *setting = (*setting + i64::from(step)).clamp(least, most);
+    }
+
+    /// Clause "Order lines": the checks in turn, then the effect; a refusal changes nothing.
+    pub fn order(&mut self, order: Order) -> Result<(), Code> {
+        self.judge(order)?;
+        let (flt, fena) = (self.flt(), self.fena);
+        self.carry_out(order);
+        let takes_over = matches!(order, Order::Pv(_) | Order::Pc(_) | Order::Out(_));
+        if takes_over && self.mode == Mode::Local {
+            self.mode = Mode::Remote;
+        }
+        self.keep_risen_faults(flt, fena);
+        if order == Order::Rst {
+            // The drop of WANT by the reset itself must not stay behind in FEVE.
+            self.feve = 0;
+        }
+        Ok(())
+    }
+
+    /// The middle column of the table of orders; products fit, a number has 12 characters at most.
+    fn judge(&self, order: Order) -> Result<(), Code> {
+        let model = self.limits();
+        match order {
+            Order::Pv(n) if n > model.pv_most() => Err(Code::C05),
+            Order::Pv(n) if 21 * n > 20 * self.ovp => Err(Code::E01),
+            Order::Pv(n) if 19 * n < 20 * self.uvl => Err(Code::E02),
+            Order::Pc(n) if n > model.pc_most() => Err(Code::C05),
+            Order::Ovp(n) if n < model.ovp_least || n > model.ovp_most => Err(Code::C05),
+            Order::Ovp(n) if 20 * n < 21 * self.pv => Err(Code::E04),
+            Order::Uvl(n) if n > model.uvl_most => Err(Code::C05),
+            Order::Uvl(n) if 20 * n > 19 * self.pv => Err(Code::E06),
+            Order::Out(true) if self.lines != 0 => Err(Code::E07),
+            _ => Ok(()),
+        }
+    }
+
+    fn carry_out(&mut self, order: Order) {
+        match order {
+            Order::Pv(n) => self.pv = n,
+            Order::Pc(n) => self.pc = n,
+            Order::Ovp(n) => self.ovp = n,
+            Order::Ovm => self.ovp = self.limits().ovp_most,
+            Order::Uvl(n) => self.uvl = n,
+            Order::Out(true) => {
+                self.clear_trips();
+                self.want = true;
+            }
+            Order::Out(false) => self.want = false,
+            Order::Fld(true) => self.armed = true,
+            Order::Fld(false) => self.disarm(),
+            Order::Ast(on) => self.ast = on,
+            Order::Rmt(mode) => self.mode = mode,
+            Order::Fena(bits) => self.fena = bits,
+            Order::Cls => self.feve = 0,
+            Order::Rst => self.reset(),
+        }
+    }
+
+    /// Clause "RST": fresh, with LINES, FENA and the counts kept and MODE 1.
+    fn reset(&mut self) {
+        *self = Supply {
+            mode: Mode::Remote,
+            lines: self.lines,
+            fena: self.fena,
+            volt_count: self.volt_count,
+            ampere_count: self.ampere_count,
+            ..Supply::fresh(self.model)
+        };
+    }
+
+    /// Clause "Queries": the answer as it stands in the reply, before any checksum.
+    pub fn ask(&mut self, query: Query) -> String {
+        match query {
+            Query::Pv => volts_text(self.pv),
+            Query::Pc => amperes_text(self.pc),
+            Query::Ovp => volts_text(self.ovp),
+            Query::Uvl => volts_text(self.uvl),
+            Query::Mv => volts_text(self.volt_reading()),
+            Query::Mc => amperes_text(self.ampere_reading()),
+            Query::Out => on_off(self.output_on()),
+            Query::Fld => on_off(self.armed),
+            Query::Ast => on_off(self.ast),
+            Query::Rmt => self.mode_text().to_string(),
+            Query::Mode => self.regulation().to_string(),
+            Query::Flt => format!("{:02X}", self.flt()),
+            Query::Fena => format!("{:02X}", self.fena),
+            Query::Feve => format!("{:02X}", std::mem::take(&mut self.feve)),
+        }
+    }
+
+    fn mode_text(&self) -> &'static str {
+        match self.mode {
+            Mode::Local => "LOC",
+            Mode::Remote => "REM",
+            Mode::LockedOut => "LLO",
+        }
+    }
+
+    /// MODE?: the stored ampere count against the PC of now.
+    fn regulation(&self) -> &'static str {
+        if !self.output_on() {
+            "OFF"
+        } else if self.ampere_reading() >= self.pc {
+            "CC"
+        } else {
+            "CV"
+        }
+    }
+
+    /// Clause "Releases" for an order, judged on the state before it.
+    pub fn released_by_order(&self, order: Order) -> Releases {
+        match order {
+            Order::Out(true) if self.judge(order).is_ok() => Releases::BOTH,
+            Order::Rst => Releases::BOTH,
+            Order::Fld(false) => Releases { fold: self.armed, ovp: false },
+            _ => Releases::NONE,
+        }
+    }
+
+    /// Clause "Releases" for an event, judged on the state before it.
+    pub fn released_by_event(&self, event: Event) -> Releases {
+        match event {
+            Event::Key(Key::Output) if self.key_turns_on() => Releases::BOTH,
+            Event::Key(Key::Fold) => {
+                Releases { fold: self.mode == Mode::Local && self.armed, ovp: false }
+            }
+            Event::Lines(new) => {
+                let fallen = self.lines & !new;
+                let ac = fallen & AC != 0;
+                Releases { fold: ac, ovp: ac || (fallen & SO != 0 && self.ast) }
+            }
+            _ => Releases::NONE,
+        }
+    }
+
+    fn key_turns_on(&self) -> bool {
+        self.mode == Mode::Local && !self.output_on() && self.lines == 0
+    }
+}
+
+fn divide_up(value: i64, by: i64) -> i64 {
+    (value + by - 1) / by
+}
+
+fn on_off(on: bool) -> String {
+    if on { "ON" } else { "OFF" }.to_string()
+}
+
+/// Four decimals and no needless leading zero.
+pub fn volts_text(ticks: i64) -> String {
+    format!("{}.{:04}", ticks / 10_000, ticks % 10_000)
+}
+
+/// Three decimals and no needless leading zero.
+pub fn amperes_text(milliamperes: i64) -> String {
+    format!("{}.{:03}", milliamperes / 1_000, milliamperes % 1_000)
+}
