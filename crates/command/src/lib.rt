@@ -40,9 +40,13 @@ pub struct Heard {
 }
 
 const C01: u8 = 0xC1;
+
 const C02: u8 = 0xC2;
+
 const C03: u8 = 0xC3;
+
 const C04: u8 = 0xC4;
+
 const C05: u8 = 0xC5;
 
 // A parameter that is needed: C02 where it is empty, C03 where it is no number.
@@ -120,10 +124,7 @@ fn bare_parameter(x: &[u8]) -> Parameter
     ensures { λ r. ⌜ r ≡ parameterOf bare (now (x .entry)) ⌝ }
 {
     if x.len() == 0 {
-        Parameter {
-            code: 0,
-            value: 0,
-        }
+        Parameter { code: 0, value: 0 }
     } else {
         Parameter {
             code: C03,
@@ -284,35 +285,65 @@ fn select_one(x: &[u8]) -> Asks
 
 // The words as numbers: a 1, and then a byte for each character.
 const PV: u64 = 0x1_50_56;
+
 const PC: u64 = 0x1_50_43;
+
 const OVP: u64 = 0x1_4f_56_50;
+
 const OVM: u64 = 0x1_4f_56_4d;
+
 const UVL: u64 = 0x1_55_56_4c;
+
 const OUT: u64 = 0x1_4f_55_54;
+
 const FLD: u64 = 0x1_46_4c_44;
+
 const AST: u64 = 0x1_41_53_54;
+
 const RMT: u64 = 0x1_52_4d_54;
+
 const FENA: u64 = 0x1_46_45_4e_41;
+
 const CLS: u64 = 0x1_43_4c_53;
+
 const RST: u64 = 0x1_52_53_54;
+
 const PV_ASKED: u64 = 0x1_50_56_3f;
+
 const PC_ASKED: u64 = 0x1_50_43_3f;
+
 const OVP_ASKED: u64 = 0x1_4f_56_50_3f;
+
 const UVL_ASKED: u64 = 0x1_55_56_4c_3f;
+
 const MV_ASKED: u64 = 0x1_4d_56_3f;
+
 const MC_ASKED: u64 = 0x1_4d_43_3f;
+
 const OUT_ASKED: u64 = 0x1_4f_55_54_3f;
+
 const FLD_ASKED: u64 = 0x1_46_4c_44_3f;
+
 const AST_ASKED: u64 = 0x1_41_53_54_3f;
+
 const RMT_ASKED: u64 = 0x1_52_4d_54_3f;
+
 const MODE_ASKED: u64 = 0x1_4d_4f_44_45_3f;
+
 const FLT_ASKED: u64 = 0x1_46_4c_54_3f;
+
 const FENA_ASKED: u64 = 0x1_46_45_4e_41_3f;
+
 const FEVE_ASKED: u64 = 0x1_46_45_56_45_3f;
+
 const ADR: u64 = 0x1_41_44_52;
+
 const GPV: u64 = 0x1_47_50_56;
+
 const GPC: u64 = 0x1_47_50_43;
+
 const GOUT: u64 = 0x1_47_4f_55_54;
+
 const GRST: u64 = 0x1_47_52_53_54;
 
 // What the word with this number asks of its parameter: an arm for each order and query.

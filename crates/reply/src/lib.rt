@@ -90,7 +90,15 @@ fn put_answer_reply(buf: &mut [u8], at: usize, a: Answer, summed: bool) -> usize
 }
 
 // Places what a supply, as it stands before the act, says to an act with this code.
-fn put_said(buf: &mut [u8], at: usize, model: u8, s: Supply, a: Act, code: u8, summed: bool) -> usize
+fn put_said(
+    buf: &mut [u8],
+    at: usize,
+    model: u8,
+    s: Supply,
+    a: Act,
+    code: u8,
+    summed: bool,
+) -> usize
     requires { ⌜ code ≡ codeOf model s a ⌝ }
     ensures { λ r. ⌜ Put (now (buf .entry)) at (replyOf summed (saidOf model s a)) r (now (buf .exit)) ⌝ }
 {
