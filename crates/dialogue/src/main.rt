@@ -1,0 +1,251 @@
+// Talks to a supply line by line, and holds each reply against the one that is expected. Standard
+// input has the lines and the replies; a second model of the serial line, which shares nothing with
+// this one, writes them (tests/src/bin/dialogue.rs). An item stands on each line of the input:
+//   model N   a fresh supply of this model
+//   > TEXT    a line at its CR
+//   ! TEXT    a line at its CR that is spoiled
+//   < TEXT    the reply to the line before, without its CR; nothing after < where none comes
+// In the TEXT of a line, \xHH is the byte with these hexadecimal digits. Prints how many replies
+// were expected and how many items went wrong, and before that where the first wrong ones stand.
+ghost use Prim.Native.Nat.{_<_, _≤_};
+ghost use lib.ListN.{length};
+use command::Asks;
+use libc::STDIN_FILENO;
+use libc::STDOUT_FILENO;
+use reply::Obeyed;
+use supply::Act;
+use supply::Supply;
+
+// More bytes than the input has; of a longer one the rest is not read, and the count shows it.
+const INPUT: usize = 262_144;
+
+// The characters that a line holds.
+const LINE: usize = 64;
+
+// Room for the bytes of a line that is too long, so that it shows.
+const LINE_ROOM: usize = 80;
+
+// Room for one reply.
+const REPLY_ROOM: usize = 64;
+
+// There are models below this number.
+const MODELS: u64 = 12;
+
+// So many wrong items are named.
+const NAMED: u64 = 10;
+
+// How far the talk has come: the supply with its model, the length of the reply to the last line
+// and whether it is still to be compared, and the items, replies and wrong ones so far.
+struct Talk {
+    model: u8,
+    supply: Supply,
+    length: usize,
+    waits: bool,
+    items: u64,
+    replies: u64,
+    wrong: u64,
+}
+
+// One byte of a text, and the index after what it is written as.
+struct Character {
+    byte: u8,
+    next: usize,
+}
+
+fn one_more(n: u64) -> u64 {
+    if n < u64::MAX { n + 1 } else { n }
+}
+
+// Counts an item as wrong, and names where it stands, unless enough of them are named.
+fn wrong_item(t: Talk) -> Talk {
+    if t.wrong < NAMED {
+        io::write_all(STDOUT_FILENO, b"wrong: line ");
+        io::print_decimal(STDOUT_FILENO, t.items);
+        io::write_all(STDOUT_FILENO, b"\n");
+    }
+    let mut r = t;
+    r.wrong = one_more(t.wrong);
+    r
+}
+
+// A reply that still waits to be compared is missing from the input, and the item is wrong.
+fn nothing_waits(t: Talk) -> Talk {
+    if t.waits { wrong_item(t) } else { t }
+}
+
+// The character that begins at an index: \xHH, or a byte as it is.
+fn character_at(s: &[u8], i: usize) -> Character
+    requires { ⌜ i < length (now s) ⌝ }
+    ensures { λ r. ⌜ (i < r .next) × (r .next ≤ length (now (s .entry))) ⌝ }
+{
+    let b = s[i];
+    if b != b'\\' {
+        return Character {
+            byte: b,
+            next: i + 1,
+        };
+    }
+    if s.len() - i < 4 {
+        return Character {
+            byte: b,
+            next: i + 1,
+        };
+    }
+    let n = figures::read_hex(&s[i + 2..i + 4]);
+    Character {
+        byte: (n.value % 256) as u8,
+        next: i + 4,
+    }
+}
+
+// Places the bytes that a text stands for, and tells the index after them.
+fn put_bytes(buf: &mut [u8], text: &[u8]) -> usize {
+    let mut at = 0;
+    let mut i = 0;
+    while i < text.len() {
+        let c = character_at(text, i);
+        at = base::put_byte(buf, at, c.byte);
+        i = c.next;
+    }
+    at
+}
+
+// A supply takes a global as the order that it stands for, and says nothing.
+fn obey_silently(model: u8, s: Supply, a: Act) -> Obeyed {
+    let done = acts::perform(model, s, a);
+    let after = done.supply;
+    Obeyed {
+        supply: after,
+        next: 0,
+    }
+}
+
+// OK, or a code, from a supply that does nothing.
+fn reply_code(s: Supply, code: u8, summed: bool, buf: &mut [u8]) -> Obeyed {
+    let next = reply::put_code_reply(buf, 0, code, summed);
+    Obeyed { supply: s, next }
+}
+
+// What comes of a line at its CR. An ADR is answered here, and changes nothing.
+fn hear_line(model: u8, s: Supply, line: &[u8], spoiled: bool, buf: &mut [u8]) -> Obeyed {
+    let heard = command::read_line(line, spoiled);
+    let summed = heard.summed;
+    let asks = heard.asks;
+    match asks {
+        Asks::One(a) => reply::obey(model, s, a, summed, buf, 0),
+        Asks::Select(_) => reply_code(s, 0, summed, buf),
+        Asks::BadSelect(code) => reply_code(s, code, summed, buf),
+        Asks::Error(code) => reply_code(s, code, summed, buf),
+        Asks::Everyone(o) => obey_silently(model, s, Act::Obey(o)),
+        Asks::Nobody => Obeyed { supply: s, next: 0 },
+    }
+}
+
+// Whether the first bytes of a buffer are a text and CR; of no text, whether they are none.
+fn is_reply(buf: &[u8], length: usize, text: &[u8]) -> bool {
+    let n = text.len();
+    if n == 0 {
+        return length == 0;
+    }
+    if buf.len() <= n {
+        return false;
+    }
+    check::same(figures::part_before(buf, n), text) & (buf[n] == 13) & (length == n + 1)
+}
+
+fn take_model(t: Talk, text: &[u8]) -> Talk {
+    let n = figures::read_number(text, 0);
+    let mut r = nothing_waits(t);
+    r.waits = false;
+    if n.good & (n.value < MODELS) {
+        let model = (n.value % 256) as u8;
+        let fresh = supply::fresh_supply(model);
+        r.model = model;
+        r.supply = fresh;
+        r
+    } else {
+        wrong_item(r)
+    }
+}
+
+fn take_line(said: &mut [u8; REPLY_ROOM], t: Talk, text: &[u8], spoiled: bool) -> Talk {
+    let mut line = [0u8; LINE_ROOM];
+    let n = put_bytes(&mut line, text);
+    let mut r = nothing_waits(t);
+    r.waits = true;
+    if LINE < n {
+        return wrong_item(r);
+    }
+    let s = t.supply;
+    let done = hear_line(t.model, s, figures::part_before(&line, n), spoiled, said);
+    let after = done.supply;
+    r.supply = after;
+    r.length = done.next;
+    r
+}
+
+fn take_reply(said: &[u8; REPLY_ROOM], t: Talk, text: &[u8]) -> Talk {
+    let mut r = t;
+    r.waits = false;
+    r.replies = one_more(t.replies);
+    if t.waits & is_reply(said, t.length, text) {
+        r
+    } else {
+        wrong_item(r)
+    }
+}
+
+// An item is a word, and what follows the first space.
+fn take_item(said: &mut [u8; REPLY_ROOM], t: Talk, item: &[u8]) -> Talk {
+    let p = figures::first_at(item, b' ');
+    let word = figures::part_before(item, p);
+    let text = figures::part_after(item, p);
+    let mut r = t;
+    r.items = one_more(t.items);
+    if check::same(word, b">") {
+        take_line(said, r, text, false)
+    } else if check::same(word, b"!") {
+        take_line(said, r, text, true)
+    } else if check::same(word, b"<") {
+        take_reply(said, r, text)
+    } else if check::same(word, b"model") {
+        take_model(r, text)
+    } else {
+        wrong_item(r)
+    }
+}
+
+fn first_talk() -> Talk {
+    Talk {
+        model: 0,
+        supply: supply::fresh_supply(0),
+        length: 0,
+        waits: false,
+        items: 0,
+        replies: 0,
+        wrong: 0,
+    }
+}
+
+fn take_items(s: &[u8]) -> Talk {
+    let mut said = [0u8; REPLY_ROOM];
+    let mut t = first_talk();
+    let mut rest = s;
+    while 0 < rest.len() {
+        let p = figures::first_at(rest, b'\n');
+        t = take_item(&mut said, t, figures::part_before(rest, p));
+        let after = figures::part_after(rest, p);
+        rest = after;
+    }
+    nothing_waits(t)
+}
+
+fn main() {
+    let mut input = [0u8; INPUT];
+    let n = io::read_full(STDIN_FILENO, &mut input);
+    let t = take_items(&input[..n]);
+    io::print_decimal(STDOUT_FILENO, t.replies);
+    io::write_all(STDOUT_FILENO, b" replies, ");
+    io::print_decimal(STDOUT_FILENO, t.wrong);
+    io::write_all(STDOUT_FILENO, b" wrong\n");
+}
