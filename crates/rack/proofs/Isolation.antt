@@ -1,0 +1,60 @@
+-- Demand 3 of the code: each call's equation, chained from the fitting list on, makes the rack the one of the definitions.
+use Prim.Native.Nat.{ℕ, _≤_}
+use mathlib.Core.Path.{_≡_, refl, sym, ap, subst, _∙_}
+use mathlib.Core.List.{List, [], _∷_}
+use lib.ListN.{length, getD}
+use Rattle.wire.specs.Wire.{Call, parse}
+use Rattle.wire.specs.Rack.{callOf, after, runFrom, run, slot}
+use Rattle.wire.specs.Rack as wire
+use Rattle.supply.specs.declared.Supply.{Supply}
+use Rattle.plain.specs.Plain.{plainSupply}
+use Rattle.plain.proofs.Isolation.{isolated}
+use Rattle.rack.specs.declared.Rack.{Rack}
+use Rattle.rack.specs.declared.Answer.{Answer}
+use Rattle.rack.specs.View.{viewOf}
+use Rattle.rack.specs.Calls.{refusal, Answered, callAs}
+use Rattle.rack.specs.Demand3.{Leads, Run, setupOf, supplyAt, Isolated}
+
+-- the line is short, and the view is this rack
+pub record Seen (r : Rack) (v : wire.Rack Supply) : Type 0 where
+  pub small : r .line .count ≤ 64
+  pub is : viewOf r ≡ v
+
+answered-seen : (r : Rack) (b : List ℕ) (w : wire.Answer Supply) (a : Answer) (b′ : List ℕ) → r .line .count ≤ 64 → Answered r b w a b′ → Seen (a .rack) (after plainSupply (viewOf r) w)
+answered-seen r b (wire.refused n) a b′ h d =
+    let e : a .rack ≡ r = ap (λ (x : Answer). x .rack) (d .0) in
+    record { small = subst (λ (x : Rack). x .line .count ≤ 64) (sym e) h; is = ap viewOf e }
+answered-seen r b (wire.done q used t) a b′ h d = record { small = d h .small; is = d h .rack-is }
+
+leads-seen : (calls : List Call) (r q : Rack) (v : wire.Rack Supply) → Seen r v → Leads r calls q → Seen q (runFrom plainSupply v calls)
+leads-seen [] r q v s e = subst (λ (x : Rack). Seen x v) (sym e) s
+leads-seen (c ∷ cs) r q v s t =
+    let call : Call = callAs (c .bytes) (t .buffer) in
+    let same : call ≡ c = ap (λ (n : ℕ). record { bytes = c .bytes; room = n }) (t .room-is) in
+    let one = answered-seen r (t .buffer) (callOf plainSupply (viewOf r) call) (t .answer) (t .left) (s .small) (t .does) in
+    leads-seen cs (t .answer .rack) q (after plainSupply v (callOf plainSupply v c))
+    (subst (λ (x : Call). Seen (t .answer .rack) (after plainSupply v (callOf plainSupply v x))) same
+    (subst (λ (y : wire.Rack Supply). Seen (t .answer .rack) (after plainSupply y (callOf plainSupply y call))) (s .is) one))
+    (t .rest)
+
+run-seen : (l : List ℕ) (calls : List Call) (r : Rack) → Run l calls r → Seen r (run plainSupply (setupOf l) calls)
+run-seen l calls r g =
+    let m = g .fits .makes (g .good) .1 in
+    leads-seen calls (g .fitting .rack) r _ (record { small = m .small; is = m .fresh-is }) (g .leads)
+
+slot-is : (l : List ℕ) (calls : List Call) (r : Rack) (a : ℕ) → Run l calls r → slot plainSupply (run plainSupply (setupOf l) calls) a ≡ supplyAt r a
+slot-is l calls r a g = ap (λ (x : wire.Rack Supply). slot plainSupply x a) (sym (run-seen l calls r g .is))
+
+-- DEMAND 3, for every fitting list and every list of calls
+pub isolated-code : (l : List ℕ) (calls : List Call) → Isolated l calls
+isolated-code l calls a f =
+    let d = isolated (setupOf l) calls a f in
+    record {
+      ends = λ r g. sym (slot-is l calls r a g) ∙ d .ends;
+      alike = λ r g l₂ calls₂ r₂ b g₂ m e. sym (slot-is l calls r a g) ∙ d .alike (setupOf l₂) calls₂ b m e ∙ slot-is l₂ calls₂ r₂ b g₂;
+      margins = λ past rest r e g. let w = rw (slot-is l past r a g) at (d .invariant past rest e) in (w .uvl-margin, w .ovp-margin);
+      limits = λ past rest r e g. rw (slot-is l past r a g) at (d .invariant past rest e);
+      calls-off = λ k past rest r e g t. rw (slot-is l past r a g) at (d .calls-off k past rest e t);
+      entries-off = d .entries-off;
+      freed = d .freed;
+    }

@@ -1,0 +1,142 @@
+-- Each way of a line's end, as the code has it, is what the definitions say of its class.
+use Prim.Native.Nat.{ℕ, zero, suc, _≤_, _<_}
+use native.Mathlib.Nat.{le-of-suc-le-suc, not-suc-le-zero}
+use mathlib.Core.Path.{_≡_, refl, sym, ap, _∙_}
+use mathlib.Core.List.{List, [], _∷_, _++_, append-nil}
+use mathlib.Core.Bool.{Bool, true, false}
+use lib.ListN.{length, getD, set, take}
+use lib.Seq.{set-getD}
+use Rattle.base.specs.Choice.{pick}
+use Rattle.base.specs.Put.{Put}
+use Rattle.base.proofs.Put.{put-none}
+use Rattle.wire.specs.declared.Setup.{Setup}
+use Rattle.wire.specs.Wire.{Wire, modelAt, fitted, nobody, Entry, line, select, faulty, global, other, one, all, say, byClass, byteOn}
+use Rattle.wire.specs.Rack.{deliver, moved, replies}
+use Rattle.wire.proofs.ForCode.{eachTo, deliver-one, deliver-all, deliver-say}
+use Rattle.supply.specs.declared.Supply.{Supply}
+use Rattle.supply.specs.declared.Order.{Order}
+use Rattle.supply.specs.declared.Act.{Act}
+use Rattle.supply.specs.State.{fresh}
+use Rattle.acts.specs.Acts.{performed}
+use Rattle.command.specs.declared.Asks.{Asks}
+use Rattle.command.specs.declared.Asks.the-variants.{Select, BadSelect, Everyone, Nobody, One, Error}
+use Rattle.command.specs.declared.Heard.{Heard}
+use Rattle.command.specs.Lines.{heardAs, heardOf}
+use Rattle.reply.specs.Texts.{codeText, replyOf}
+use Rattle.reply.specs.Obeying.{saidOf}
+use Rattle.protocol.specs.Sent.{obeyed, repliedTo}
+use Rattle.serial.specs.declared.Line.{Line}
+use Rattle.serial.specs.View.{wireOf, orderedAt, Typed}
+use Rattle.serial.proofs.Chars.{char-on}
+use borrow.Author.Tests.{ne-eqb}
+use Rattle.plain.specs.Plain.{plainSupply, grammar, stepOf, replyTo, classBy, classOf}
+use Rattle.rack.specs.declared.Rack.{Rack}
+use Rattle.rack.specs.View.{viewOf, Moves}
+
+-- the line after its CR, with a slot selected
+pub record Cleared (l : Line) (sel : ℕ) : Type 0 where
+  pub small : l .count ≤ 64
+  pub is : wireOf l ≡ record { kept = []; spoiled = false; sel = sel }
+
+abbrev pub rackIs : List Supply → Line → Setup → Rack
+rackIs ss l u = record { slots = ss; line = l; setup = u }
+
+module _ (r : Rack) (b : List ℕ) (at : ℕ) where
+  abbrev u : Setup
+  u = r .setup
+
+  abbrev w : Wire
+  w = wireOf (r .line)
+
+  abbrev ss : List Supply
+  ss = r .slots
+
+  pub select-fitted : (a : ℕ) (t : List ℕ) (l : Line) (n : ℕ) (b′ : List ℕ) → fitted u a ≡ true → Cleared l a → Put b at t n b′ → Moves r (byClass u w (select a t)) (rackIs ss l u) b at n b′
+  select-fitted a t l n b′ f c p =
+      record { small = c .small; view = rw (f, c .is, deliver-say plainSupply u ss t) refl; said = rw (f, append-nil) p }
+
+  pub select-empty : (a : ℕ) (t : List ℕ) (l : Line) → fitted u a ≡ false → Cleared l nobody → Moves r (byClass u w (select a t)) (rackIs ss l u) b at at b
+  select-empty a t l f c = record { small = c .small; view = rw (f, c .is) refl; said = rw f (put-none b at) }
+
+  pub code-fitted : (t : List ℕ) (l : Line) (n : ℕ) (b′ : List ℕ) → fitted u (w .sel) ≡ true → Cleared l (w .sel) → Put b at t n b′ → Moves r (byClass u w (faulty t)) (rackIs ss l u) b at n b′
+  code-fitted t l n b′ f c p =
+      record { small = c .small; view = rw (f, c .is, deliver-say plainSupply u ss t) refl; said = rw (f, append-nil) p }
+
+  pub code-empty : (t : List ℕ) (l : Line) → fitted u (w .sel) ≡ false → Cleared l (w .sel) → Moves r (byClass u w (faulty t)) (rackIs ss l u) b at at b
+  code-empty t l f c = record { small = c .small; view = rw (f, c .is) refl; said = rw f (put-none b at) }
+
+  -- a line for all supplies: each fitted one takes the order that it stands for
+  pub told : (o : Order) (after : List Supply) (l : Line) → length ss ≤ 31 → after ≡ eachTo (orderedAt u o) 31 ss → Cleared l (w .sel)
+      → heardOf (w .kept) (w .spoiled) .asks ≡ Everyone o → Moves r (byClass u w global) (rackIs after l u) b at at b
+  unfolding stepOf obeyed
+  told o after l n e c h =
+      let d : eachTo (orderedAt u o) 31 ss ≡ deliver plainSupply u ss (all (line (w .kept) (w .spoiled))) =
+      ap (λ (x : Asks). eachTo (λ a s. pick (fitted u a) (obeyed (modelAt u a) s x) s) 31 ss) (sym h) ∙ deliver-all plainSupply u ss (line (w .kept) (w .spoiled)) 31 n in
+      record { small = c .small; view = rw (e, c .is, d) refl; said = put-none b at }
+
+  -- a line for the slot selected: its supply steps and replies
+  pub asked : (a : Act) (t : Bool) (m : ℕ) (x y : Supply) (after : List Supply) (l : Line) (n : ℕ) (b′ : List ℕ)
+      → fitted u (w .sel) ≡ true → m ≡ modelAt u (w .sel) → x ≡ getD ss (w .sel) (fresh 255) → y ≡ performed m x a → after ≡ set ss (w .sel) y → Cleared l (w .sel)
+      → Put b at (replyOf t (saidOf m x a)) n b′
+      → heardOf (w .kept) (w .spoiled) ≡ heardAs (One a) t
+      → Moves r (byClass u w other) (rackIs after l u) b at n b′
+  unfolding stepOf obeyed replyTo repliedTo
+  asked a t m x y after l n b′ f em ex ey ea c p h =
+      record {
+        small = c .small;
+        view = rw (f, c .is, ea, ey, em, ex, deliver-one plainSupply u ss (w .sel) (line (w .kept) (w .spoiled)) (fresh 255), h) refl;
+        said = rw (f, h, append-nil, ← em, ← ex) p;
+      }
+
+  pub asked-nobody : (l : Line) → fitted u (w .sel) ≡ false → Cleared l (w .sel) → Moves r (byClass u w other) (rackIs ss l u) b at at b
+  asked-nobody l f c = record { small = c .small; view = rw (f, c .is) refl; said = rw f (put-none b at) }
+
+  -- a line in error leaves its supply as it is, and draws its code
+  pub in-error : (c : ℕ) (t : Bool) (q : Rack) (n : ℕ) (b′ : List ℕ)
+      → heardOf (w .kept) (w .spoiled) ≡ heardAs (Error c) t
+      → Moves r (byClass u w (faulty (replyOf t (codeText c)))) q b at n b′
+      → Moves r (byClass u w other) q b at n b′
+  unfolding stepOf obeyed replyTo repliedTo
+  in-error c t q n b′ h m = byFit (fitted u (w .sel)) refl
+    where
+      byFit : (f : Bool) → fitted u (w .sel) ≡ f → Moves r (byClass u w other) q b at n b′
+      byFit true f =
+          record {
+            small = m .small;
+            view = m .view ∙ rw (f, deliver-say plainSupply u ss (replyOf t (codeText c)), deliver-one plainSupply u ss (w .sel) (line (w .kept) (w .spoiled)) (fresh 255), h, set-getD ss (w .sel) (fresh 255)) refl;
+            said = rw (f, h) (rw f at (m .said));
+          }
+      byFit false f = record { small = m .small; view = m .view ∙ rw f refl; said = rw f (rw f at (m .said)) }
+
+  -- an ill-formed global moves nothing and says nothing
+  pub unheard : (l : Line) → Cleared l (w .sel) → Moves r (byClass u w (faulty [])) (rackIs ss l u) b at at b
+  unheard l c = byFit (fitted u (w .sel)) refl
+    where
+      byFit : (f : Bool) → fitted u (w .sel) ≡ f → Moves r (byClass u w (faulty [])) (rackIs ss l u) b at at b
+      byFit true f = code-fitted [] l at b f c (put-none b at)
+      byFit false f = code-empty [] l f c
+
+  -- the class of the line, by what was heard
+  pub by-heard : (h : Heard) (q : Rack) (n : ℕ) (b′ : List ℕ) → h ≡ heardOf (w .kept) (w .spoiled) → Moves r (byClass u w (classBy (h .asks) (h .summed))) q b at n b′ → Moves r (byClass u w (classOf (w .kept) (w .spoiled))) q b at n b′
+  unfolding classOf
+  by-heard h q n b′ e m = rw (← e) m
+
+  -- a byte that is no CR
+  pub typed-on : (x : ℕ) (l : Line) → (x ≡ 13 → ⊥) → Typed (r .line) x l → Moves r (byteOn grammar u w x) (rackIs ss l u) b at at b
+  typed-on x l n t =
+      rw (char-on grammar u w x (ne-eqb x 13 n))
+      (record { small = t .small; view = rw (t .is) refl; said = put-none b at })
+
+  -- a CR
+  pub ended-on : (x : ℕ) (q : Rack) (n : ℕ) (b′ : List ℕ) → x ≡ 13 → Moves r (byClass u w (classOf (w .kept) (w .spoiled))) q b at n b′ → Moves r (byteOn grammar u w x) q b at n b′
+  unfolding byteOn
+  ended-on x q n b′ e m = rw e m
+
+pub heard-is : (h : Heard) (a : Asks) → h .asks ≡ a → h ≡ heardAs a (h .summed)
+heard-is h a e = rw (← e) refl
+
+-- an element inside a list does not depend on what stands past the end
+pub element-any : {A : Type 0} (l : List A) (i : ℕ) (d e : A) → i < length l → getD l i d ≡ getD l i e
+element-any [] i d e h = absurd (not-suc-le-zero h)
+element-any (x ∷ l) zero d e h = refl
+element-any (x ∷ l) (suc i) d e h = element-any l i d e (le-of-suc-le-suc h)

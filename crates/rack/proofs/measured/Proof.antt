@@ -1,0 +1,15 @@
+-- `measured` meets its contract.
+use mathlib.Core.Path.{refl}
+use borrow.Author.Needs.{needs}
+use Rattle.rack.proofs.Fairness.{sized}
+use Rattle.rack.proofs.measured.Statement.{statement}
+use Rattle.rack.proofs.measured.Tie as tie
+use Rattle.rack.proofs.measured.Reads as reads
+use Rattle.rack.proofs.measured.Lts as lts
+
+-- src/lib.rt:33:1
+returns : tie.Need-returns
+returns c = (refl, sized _ (search needs) (search needs) (search needs) (search needs) (search needs) (search needs))
+
+pub measured-spec : {M : Type 1} → statement M
+measured-spec = tie.close (tie.spec returns)

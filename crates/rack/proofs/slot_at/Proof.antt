@@ -1,0 +1,38 @@
+-- `slot_at` meets its contract.
+use Rattle.rack.proofs.Steps.{element-any}
+-- `slot_at` meets its contract.
+use mathlib.Core.Path.{_≡_, sym, ap, _∙_}
+use lib.ListN.{length}
+use native.Mathlib.Omega.{arith}
+use lib.ListN.{List·getD-eq-default}
+use Rattle.supply.specs.State.{fresh}
+use borrow.Author.Needs.{needs}
+use Rattle.rack.proofs.slot_at.Statement.{statement}
+use Rattle.rack.proofs.slot_at.Tie as tie
+use Rattle.rack.proofs.slot_at.Reads as reads
+use Rattle.rack.proofs.slot_at.Lts as lts
+use Rattle.supply.proofs.fresh_supply.Reads as fresh-supply-reads
+
+-- src/lib.rt:39:9
+mul-result : tie.Need-mul-result
+mul-result c = search needs
+
+-- src/lib.rt:39:9
+array-copy-out-result : tie.Need-array-copy-out-result
+array-copy-out-result c = search needs
+
+-- src/lib.rt:41:9
+fresh-supply-requires : tie.Need-fresh-supply-requires
+fresh-supply-requires c κs = search needs
+
+-- src/lib.rt:34:1
+returns : tie.Need-returns
+returns c = element-any (c .before .before .args .t1) (c .before .before .args .a) _ (fresh 255) (let l : length (c .before .before .args .t1) ≡ 31 = search needs in omega arith)
+
+-- src/lib.rt:34:1
+returns-2 : tie.Need-returns-2
+returns-2 c = c .fresh-supply .ensures ∙ sym (List·getD-eq-default (c .before .before .args .t1) (fresh 255) (let l : length (c .before .before .args .t1) ≡ 31 = search needs in omega arith))
+
+pub slot-at-spec : {M : Type 1} → statement M
+slot-at-spec =
+    tie.close (tie.spec mul-result array-copy-out-result fresh-supply-requires returns returns-2)

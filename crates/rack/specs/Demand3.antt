@@ -1,0 +1,81 @@
+-- DEMAND 3 OF THE CODE: what holds of every rack that a fitting list and a list of calls lead to, refused calls included.
+use Prim.Native.Nat.{ℕ, _*_, _≤_}
+use mathlib.Core.Path.{_≡_}
+use mathlib.Core.Bool.{true, false}
+use mathlib.Core.List.{List, [], _∷_, _++_}
+use lib.ListN.{length, getD}
+use Rattle.wire.specs.declared.Setup.{Setup}
+use Rattle.wire.specs.Wire.{Entry, Call, modelAt, fitted}
+use Rattle.wire.specs.Share.{shareOf}
+use Rattle.wire.specs.Rack.{plain}
+use Rattle.wire.specs.Demand3.{TrippedBy}
+use Rattle.supply.specs.declared.Supply.{Supply}
+use Rattle.supply.specs.State.{fresh}
+use Rattle.supply.specs.Flt.{onOf}
+use Rattle.settings.specs.Lawful.{Lawful}
+use Rattle.acts.specs.Releases.{Trip, isSet}
+use Rattle.plain.specs.Plain.{plainSupply, grammar, trips, stepOf, releasesOf}
+use Rattle.rack.specs.declared.Rack.{Rack}
+use Rattle.rack.specs.declared.Answer.{Answer}
+use Rattle.rack.specs.declared.Fitted.{Fitted}
+use Rattle.rack.specs.Calls.{CallDoes}
+use Rattle.rack.specs.Fit.{goodList, FitDoes}
+
+-- one call made with a buffer of the length named; Rest is what is said of the rack that it answered, on a refusal the same rack
+pub record Through (r : Rack) (c : Call) (Rest : Rack → Type 0) : Type 0 where
+  pub buffer : List ℕ
+  pub room-is : length buffer ≡ c .room
+  pub answer : Answer
+  pub left : List ℕ
+  pub does : CallDoes r (c .bytes) buffer answer left
+  pub rest : Rest (answer .rack)
+
+-- the calls, each on the rack that the one before answered, lead from r to q
+abbrev pub Leads : Rack → List Call → Rack → Type 0
+Leads r [] q = q ≡ r
+Leads r (c ∷ cs) q = Through r c (λ m. Leads m cs q)
+
+-- a list that `fit` takes, and the rack that the calls lead to from what it made
+pub record Run (l : List ℕ) (calls : List Call) (r : Rack) : Type 0 where
+  pub fitting : Fitted
+  pub good : goodList l ≡ true
+  pub fits : FitDoes l fitting
+  pub leads : Leads (fitting .rack) calls r
+
+abbrev pub setupOf : List ℕ → Setup
+setupOf l = record { models = l }
+
+-- the supply in a slot of the rack of the code
+abbrev pub supplyAt : Rack → ℕ → Supply
+supplyAt r a = getD (r .slots) a (fresh 255)
+
+-- of one fitted address, after the calls
+pub record AtAddress (l : List ℕ) (calls : List Call) (a : ℕ) : Type 0 where
+  -- the whole state is the plain supply's, from fresh, on the address's own share
+  pub ends : (r : Rack) → Run l calls r → supplyAt r a ≡ plain plainSupply (modelAt (setupOf l) a) (shareOf grammar (setupOf l) calls a)
+  -- equal models and equal shares leave slots equal, in any two racks
+  pub alike :
+      (r : Rack) → Run l calls r
+      → (l₂ : List ℕ) (calls₂ : List Call) (r₂ : Rack) (b : ℕ) → Run l₂ calls₂ r₂
+      → modelAt (setupOf l) a ≡ modelAt (setupOf l₂) b
+      → shareOf grammar (setupOf l) calls a ≡ shareOf grammar (setupOf l₂) calls₂ b
+      → supplyAt r a ≡ supplyAt r₂ b
+  -- the voltage margins, and with them the limits of the model, hold after every beginning of the list
+  pub margins : (past rest : List Call) (r : Rack) → calls ≡ past ++ rest → Run l past r
+      → (20 * supplyAt r a .uvl ≤ 19 * supplyAt r a .pv) × (21 * supplyAt r a .pv ≤ 20 * supplyAt r a .ovp)
+  pub limits : (past rest : List Call) (r : Rack) → calls ≡ past ++ rest → Run l past r → Lawful (modelAt (setupOf l) a) (supplyAt r a)
+  -- off after every call from the one with the trip on, until the one that brings a release of that trip
+  pub calls-off : (k : Trip) (past rest : List Call) (r : Rack) → calls ≡ past ++ rest → Run l past r
+      → TrippedBy plainSupply trips (modelAt (setupOf l) a) k (shareOf grammar (setupOf l) past a)
+      → onOf (supplyAt r a) ≡ false
+  -- and after each entry of the share, from the one that trips to the first release
+  pub entries-off : (k : Trip) (past rest : List Entry) → shareOf grammar (setupOf l) calls a ≡ past ++ rest
+      → TrippedBy plainSupply trips (modelAt (setupOf l) a) k past
+      → onOf (plain plainSupply (modelAt (setupOf l) a) past) ≡ false
+  -- each named release does clear its trip
+  pub freed : (k : Trip) (past : List Entry) (e : Entry) (rest : List Entry) → shareOf grammar (setupOf l) calls a ≡ past ++ e ∷ rest
+      → releasesOf (modelAt (setupOf l) a) k (plain plainSupply (modelAt (setupOf l) a) past) e ≡ true
+      → isSet k (stepOf (modelAt (setupOf l) a) (plain plainSupply (modelAt (setupOf l) a) past) e) ≡ false
+
+abbrev pub Isolated : List ℕ → List Call → Type 0
+Isolated l calls = (a : ℕ) → fitted (setupOf l) a ≡ true → AtAddress l calls a

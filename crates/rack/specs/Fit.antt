@@ -1,0 +1,34 @@
+-- WHAT A FITTING LIST MAKES: a fresh rack of its models, or refusal 8.
+use Prim.Native.Nat.{ℕ, _≤_}
+use mathlib.Core.Path.{_≡_}
+use mathlib.Core.List.{List, foldl}
+use mathlib.Core.Bool.{Bool, true, false, _&&_, _||_}
+use lib.Dec.{eqb, ltb}
+use lib.ListN.{length, replicate}
+use Rattle.wire.specs.Rack.{freshRack}
+use Rattle.wire.specs.declared.Setup.{Setup}
+use Rattle.plain.specs.Plain.{plainSupply}
+use Rattle.rack.specs.declared.Rack.{Rack}
+use Rattle.rack.specs.declared.Fitted.{Fitted}
+use Rattle.rack.specs.View.{viewOf}
+
+-- a model number, or 255 for an empty slot
+abbrev pub allowed : ℕ → Bool
+allowed m = ltb m 12 || eqb m 255
+
+unfoldable pub allAllowed : List ℕ → Bool
+allAllowed l = foldl (λ (t : Bool) (m : ℕ). t && allowed m) true l
+
+-- 31 bytes, each of them allowed
+abbrev pub goodList : List ℕ → Bool
+goodList l = eqb (length l) 31 && allAllowed l
+
+-- the fresh rack of a setup: each fitted supply fresh, nobody selected, no character kept, no line spoiled
+pub record Made (u : Setup) (r : Rack) : Type 0 where
+  pub small : r .line .count ≤ 64
+  pub fresh-is : viewOf r ≡ freshRack plainSupply u
+
+-- a list that is refused gives the rack of 31 empty slots
+pub record FitDoes (l : List ℕ) (f : Fitted) : Type 0 where
+  pub refuses : goodList l ≡ false → (f .code ≡ 8) × Made (record { models = replicate 31 255 }) (f .rack)
+  pub makes : goodList l ≡ true → (f .code ≡ 0) × Made (record { models = l }) (f .rack)

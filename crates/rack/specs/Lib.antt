@@ -1,0 +1,4 @@
+pub mod View
+pub mod Calls
+pub mod Fit
+pub mod Demand3
