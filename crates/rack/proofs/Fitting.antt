@@ -9,18 +9,17 @@ use lib.Dec.{eqb}
 use lib.ListN.{length, getD, set, take, replicate}
 use borrow.Author.Tests.{eqb-true}
 use lib.Seq.{take-suc, take-all}
-use Rattle.base.specs.Lists.{tabulate}
+use Rattle.base.specs.Lists.{tabulate, eachTo}
 use Rattle.base.proofs.Choice.{and-both}
-use Rattle.base.proofs.Lists.{tabulate-same}
+use Rattle.base.proofs.Lists.{getD-any, tabulate-same, eachTo-again, eachTo-all}
 use Rattle.wire.specs.Wire.{freshWire}
-use Rattle.wire.proofs.ForCode.{eachTo, eachTo-again, eachTo-all}
 use Rattle.supply.specs.declared.Supply.{Supply}
 use Rattle.supply.specs.State.{fresh}
 use Rattle.serial.specs.declared.Line.{Line}
 use Rattle.serial.specs.View.{wireOf}
 use Rattle.rack.specs.declared.Rack.{Rack}
 use Rattle.rack.specs.Fit.{allowed, allAllowed, goodList, Made, FitDoes}
-use Rattle.rack.proofs.Steps.{rackIs, element-any}
+use Rattle.rack.proofs.Steps.{rackIs}
 
 abbrev also : Bool → ℕ → Bool
 also t m = t && allowed m
@@ -51,7 +50,7 @@ abbrev freshAt : List ℕ → ℕ → Supply → Supply
 freshAt models a s = fresh (getD models a 255)
 
 pub fresh-again : (models : List ℕ) (d i : ℕ) (start xs : List Supply) (y : Supply) → i < length models → xs ≡ eachTo (freshAt models) i start → y ≡ fresh (getD models i d) → set xs i y ≡ eachTo (freshAt models) (i + 1) start
-fresh-again models d i start xs y h e g = eachTo-again (freshAt models) i start xs (fresh 255) y e (g ∙ ap fresh (element-any models i d 255 h))
+fresh-again models d i start xs y h e g = eachTo-again (freshAt models) i start xs (fresh 255) y e (g ∙ ap fresh (getD-any models i d 255 h))
 
 pub made : (models : List ℕ) (ss start : List Supply) (k : ℕ) (l : Line) → length models ≡ 31 → length start ≡ 31 → k ≤ 31 → 31 ≤ k → ss ≡ eachTo (freshAt models) k start → wireOf l ≡ freshWire → l .count ≤ 64
     → Made (record { models = models }) (rackIs ss l (record { models = models }))

@@ -1,6 +1,5 @@
 -- Each way of a line's end, as the code has it, is what the definitions say of its class.
-use Prim.Native.Nat.{ℕ, zero, suc, _≤_, _<_}
-use native.Mathlib.Nat.{le-of-suc-le-suc, not-suc-le-zero}
+use Prim.Native.Nat.{ℕ, _≤_}
 use mathlib.Core.Path.{_≡_, refl, sym, ap, _∙_}
 use mathlib.Core.List.{List, [], _∷_, _++_, append-nil}
 use mathlib.Core.Bool.{Bool, true, false}
@@ -12,7 +11,8 @@ use Rattle.base.proofs.Put.{put-none}
 use Rattle.wire.specs.declared.Setup.{Setup}
 use Rattle.wire.specs.Wire.{Wire, modelAt, fitted, nobody, Entry, line, select, faulty, global, other, one, all, say, byClass, byteOn}
 use Rattle.wire.specs.Rack.{deliver, moved, replies}
-use Rattle.wire.proofs.ForCode.{eachTo, deliver-one, deliver-all, deliver-say}
+use Rattle.base.specs.Lists.{eachTo}
+use Rattle.wire.proofs.ForCode.{deliver-one, deliver-all, deliver-say}
 use Rattle.supply.specs.declared.Supply.{Supply}
 use Rattle.supply.specs.declared.Order.{Order}
 use Rattle.supply.specs.declared.Act.{Act}
@@ -134,9 +134,3 @@ module _ (r : Rack) (b : List ℕ) (at : ℕ) where
 
 pub heard-is : (h : Heard) (a : Asks) → h .asks ≡ a → h ≡ heardAs a (h .summed)
 heard-is h a e = rw (← e) refl
-
--- an element inside a list does not depend on what stands past the end
-pub element-any : {A : Type 0} (l : List A) (i : ℕ) (d e : A) → i < length l → getD l i d ≡ getD l i e
-element-any [] i d e h = absurd (not-suc-le-zero h)
-element-any (x ∷ l) zero d e h = refl
-element-any (x ∷ l) (suc i) d e h = element-any l i d e (le-of-suc-le-suc h)

@@ -3,7 +3,7 @@ ghost use mathlib.Core.Path.{_≡_};
 ghost use mathlib.Core.Bool.{true, false};
 ghost use Prim.Native.Nat.{_≤_};
 ghost use Rattle.wire.specs.Wire.{freshWire, modelAt, fitted, nobody};
-ghost use Rattle.wire.proofs.ForCode.{eachTo};
+ghost use Rattle.base.specs.Lists.{eachTo};
 ghost use Rattle.acts.specs.Acts.{performed};
 ghost use Rattle.command.specs.Lines.{heardOf};
 ghost use Rattle.serial.specs.View.{wireOf, Typed, orderedAt};

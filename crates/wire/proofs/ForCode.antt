@@ -10,47 +10,13 @@ use lib.ListN.{length, getD, set, length-set, List·getD-eq-default}
 use lib.Seq.{ext-getD, set-getD, getD-set-same, getD-set-other}
 use borrow.Author.Tests.{eqb-true, eqb-false}
 use Rattle.base.specs.Choice.{pick}
-use Rattle.base.specs.Lists.{tabulate}
-use Rattle.base.proofs.Lists.{length-tabulate, getD-tabulate, tabulate-same}
+use Rattle.base.specs.Lists.{tabulate, eachTo}
+use Rattle.base.proofs.Lists.{getD-any, length-tabulate, getD-tabulate, tabulate-same, eachTo-all}
 use Rattle.wire.specs.Wire.{Entry, Delivery, one, all, say, Item, event, Grammar, modelAt, fitted, Wire, Sent, followed, byteOn, itemOn, scan}
 use Rattle.wire.specs.Rack.{Plain, Rack, next, stateAt, deliver, replies, moved}
 use Rattle.wire.specs.declared.Setup.{Setup}
 use Rattle.wire.proofs.Stream.{on-char, scan-append}
 use Rattle.wire.proofs.Calls.{moved-twice}
-
--- the list with f i applied to the element i, for its first k elements: what a loop over an array has done after k turns
-abbrev pub eachTo : {A : Type 0} → (ℕ → A → A) → ℕ → List A → List A
-eachTo f zero l = l
-eachTo f (suc k) [] = []
-eachTo f (suc k) (x ∷ l) = f 0 x ∷ eachTo (λ i. f (suc i)) k l
-
-module _ {A : Type 0} where
-  -- one turn more; past the end nothing changes
-  eachTo-step : (f : ℕ → A → A) (k : ℕ) (l : List A) (d : A) → set (eachTo f k l) k (f k (getD (eachTo f k l) k d)) ≡ eachTo f (suc k) l
-  eachTo-step f zero [] d = refl
-  eachTo-step f (suc k) [] d = refl
-  eachTo-step f zero (x ∷ l) d = refl
-  eachTo-step f (suc k) (x ∷ l) d = ap (λ (t : List A). f 0 x ∷ t) (eachTo-step (λ i. f (suc i)) k l d)
-
-  -- a turn of a loop whose invariant is `xs ≡ eachTo f k l`: the element k, as it stands, is replaced
-  pub eachTo-again : (f : ℕ → A → A) (k : ℕ) (l xs : List A) (d y : A) → xs ≡ eachTo f k l → y ≡ f k (getD xs k d) → set xs k y ≡ eachTo f (k + 1) l
-  eachTo-again f k l xs d y e g = rw (add-one, g, e) (eachTo-step f k l d)
-
-  -- a turn that leaves it, where f would
-  pub eachTo-skip : (f : ℕ → A → A) (k : ℕ) (l xs : List A) (d : A) → xs ≡ eachTo f k l → f k (getD xs k d) ≡ getD xs k d → xs ≡ eachTo f (k + 1) l
-  eachTo-skip f k l xs d e g = sym (set-getD xs k d) ∙ eachTo-again f k l xs d (getD xs k d) e (sym g)
-
-  -- the loop's end: as many turns as there are elements, or more
-  pub eachTo-all : (f : ℕ → A → A) (k : ℕ) (l : List A) (d : A) → length l ≤ k → eachTo f k l ≡ tabulate (length l) (λ i. f i (getD l i d))
-  eachTo-all f zero [] d h = refl
-  eachTo-all f (suc k) [] d h = refl
-  eachTo-all f zero (x ∷ l) d h = absurd (not-suc-le-zero h)
-  eachTo-all f (suc k) (x ∷ l) d h = ap (λ (t : List A). f 0 x ∷ t) (eachTo-all (λ i. f (suc i)) k l d (le-of-suc-le-suc h))
-
-  getD-any : (l : List A) (i : ℕ) (d e : A) → i < length l → getD l i d ≡ getD l i e
-  getD-any [] i d e h = absurd (not-suc-le-zero h)
-  getD-any (x ∷ l) zero d e h = refl
-  getD-any (x ∷ l) (suc i) d e h = getD-any l i d e (le-of-suc-le-suc h)
 
 -- the model of an address, read from the array, whatever an array's element past its end stands for; and past its end
 pub model-inside : (u : Setup) (a d : ℕ) → a < length (u .models) → getD (u .models) a d ≡ modelAt u a

@@ -4,7 +4,7 @@ use native.Mathlib.Omega.{arith}
 use Prim.Native.Nat.{_≤_, _-_}
 use mathlib.Core.Path.{_≡_, refl}
 use lib.ListN.{length, getD, take}
-use Rattle.wire.proofs.ForCode.{eachTo}
+use Rattle.base.specs.Lists.{eachTo}
 use Rattle.supply.specs.State.{fresh}
 use Rattle.rack.proofs.Fitting.{fresh-again, made}
 use Rattle.rack.proofs.fresh_rack.Statement.{statement}

@@ -4,7 +4,8 @@ use native.Mathlib.Omega.{arith}
 use Prim.Native.Nat.{_≤_, _-_}
 use mathlib.Core.Path.{_≡_, refl}
 use lib.ListN.{length, getD, take}
-use Rattle.wire.proofs.ForCode.{eachTo, eachTo-again}
+use Rattle.base.specs.Lists.{eachTo}
+use Rattle.base.proofs.Lists.{eachTo-again}
 use Rattle.rack.proofs.Fitting.{models-are}
 use Rattle.rack.proofs.models_of.Statement.{statement}
 use Rattle.rack.proofs.models_of.Tie as tie

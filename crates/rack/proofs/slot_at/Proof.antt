@@ -1,5 +1,4 @@
 -- `slot_at` meets its contract.
-use Rattle.rack.proofs.Steps.{element-any}
 -- `slot_at` meets its contract.
 use mathlib.Core.Path.{_≡_, sym, ap, _∙_}
 use lib.ListN.{length}
@@ -7,6 +6,7 @@ use native.Mathlib.Omega.{arith}
 use lib.ListN.{List·getD-eq-default}
 use Rattle.supply.specs.State.{fresh}
 use borrow.Author.Needs.{needs}
+use Rattle.base.proofs.Lists.{getD-any}
 use Rattle.rack.proofs.slot_at.Statement.{statement}
 use Rattle.rack.proofs.slot_at.Tie as tie
 use Rattle.rack.proofs.slot_at.Reads as reads
@@ -27,7 +27,7 @@ fresh-supply-requires c κs = search needs
 
 -- src/lib.rt:34:1
 returns : tie.Need-returns
-returns c = element-any (c .before .before .args .t1) (c .before .before .args .a) _ (fresh 255) (let l : length (c .before .before .args .t1) ≡ 31 = search needs in omega arith)
+returns c = getD-any (c .before .before .args .t1) (c .before .before .args .a) _ (fresh 255) (let l : length (c .before .before .args .t1) ≡ 31 = search needs in omega arith)
 
 -- src/lib.rt:34:1
 returns-2 : tie.Need-returns-2

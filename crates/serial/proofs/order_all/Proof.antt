@@ -3,7 +3,8 @@ use borrow.Author.Needs.{needs}
 use native.Mathlib.Omega.{arith}
 use Prim.Native.Nat.{_≤_, _-_}
 use mathlib.Core.Path.{_≡_}
-use Rattle.wire.proofs.ForCode.{eachTo, eachTo-again}
+use Rattle.base.specs.Lists.{eachTo}
+use Rattle.base.proofs.Lists.{eachTo-again}
 use Rattle.serial.specs.View.{orderedAt}
 use Rattle.serial.proofs.order_all.Statement.{statement}
 use Rattle.serial.proofs.order_all.Tie as tie
