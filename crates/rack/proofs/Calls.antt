@@ -18,9 +18,9 @@ use Rattle.field.specs.Fields.{tagOf, lengthOf, payloadOf, headerCode, valuesFi
 use Rattle.field.proofs.Laws.{serial-length, header-good, payload-length, read-refused, read-serial, read-empty, read-value, read-event}
 use Rattle.plain.specs.Plain.{plainSupply, stepOf, replyTo}
 use Rattle.serial.specs.View.{wireOf}
-use Rattle.rack.specs.declared.Rack.{Rack}
+use Rattle.slots.specs.declared.Rack.{Rack}
 use Rattle.rack.specs.declared.Answer.{Answer}
-use Rattle.rack.specs.View.{Moves, Fair, scanned}
+use Rattle.slots.specs.View.{Moves, Fair, scanned}
 use Rattle.rack.specs.Calls.{refusal, CallDoes, ReadDoes}
 
 bit-small : (t : Bool) → bit t ≤ 1

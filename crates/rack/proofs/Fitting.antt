@@ -17,9 +17,9 @@ use Rattle.supply.specs.declared.Supply.{Supply}
 use Rattle.supply.specs.State.{fresh}
 use Rattle.serial.specs.declared.Line.{Line}
 use Rattle.serial.specs.View.{wireOf}
-use Rattle.rack.specs.declared.Rack.{Rack}
+use Rattle.slots.specs.declared.Rack.{Rack}
 use Rattle.rack.specs.Fit.{allowed, allAllowed, goodList, Made, FitDoes}
-use Rattle.rack.proofs.Steps.{rackIs}
+use Rattle.slots.proofs.Steps.{rackIs}
 
 abbrev also : Bool → ℕ → Bool
 also t m = t && allowed m

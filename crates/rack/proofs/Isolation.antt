@@ -9,9 +9,9 @@ use Rattle.wire.specs.Rack as wire
 use Rattle.supply.specs.declared.Supply.{Supply}
 use Rattle.plain.specs.Plain.{plainSupply}
 use Rattle.plain.proofs.Isolation.{isolated}
-use Rattle.rack.specs.declared.Rack.{Rack}
+use Rattle.slots.specs.declared.Rack.{Rack}
 use Rattle.rack.specs.declared.Answer.{Answer}
-use Rattle.rack.specs.View.{viewOf}
+use Rattle.slots.specs.View.{viewOf}
 use Rattle.rack.specs.Calls.{refusal, Answered, callAs}
 use Rattle.rack.specs.Demand3.{Leads, Run, setupOf, supplyAt, Isolated}
 

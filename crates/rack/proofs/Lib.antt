@@ -1,6 +1,3 @@
-pub mod Steps
-pub mod Fairness
-pub mod Runs
 pub mod Calls
 pub mod Fitting
 pub mod Isolation

@@ -9,9 +9,9 @@ use Rattle.wire.specs.Rack as wire
 use Rattle.supply.specs.declared.Supply.{Supply}
 use Rattle.field.specs.Fields.{readField}
 use Rattle.plain.specs.Plain.{plainSupply, grammar}
-use Rattle.rack.specs.declared.Rack.{Rack}
+use Rattle.slots.specs.declared.Rack.{Rack}
 use Rattle.rack.specs.declared.Answer.{Answer}
-use Rattle.rack.specs.View.{viewOf}
+use Rattle.slots.specs.View.{viewOf}
 
 -- a refusal: its number, the very same rack, nothing used, no reply
 abbrev pub refusal : Rack → ℕ → Answer

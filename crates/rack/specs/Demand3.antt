@@ -15,7 +15,7 @@ use Rattle.supply.specs.Flt.{onOf}
 use Rattle.settings.specs.Lawful.{Lawful}
 use Rattle.acts.specs.Releases.{Trip, isSet}
 use Rattle.plain.specs.Plain.{plainSupply, grammar, trips, stepOf, releasesOf}
-use Rattle.rack.specs.declared.Rack.{Rack}
+use Rattle.slots.specs.declared.Rack.{Rack}
 use Rattle.rack.specs.declared.Answer.{Answer}
 use Rattle.rack.specs.declared.Fitted.{Fitted}
 use Rattle.rack.specs.Calls.{CallDoes}

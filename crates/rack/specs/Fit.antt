@@ -8,9 +8,9 @@ use lib.ListN.{length, replicate}
 use Rattle.wire.specs.Rack.{freshRack}
 use Rattle.wire.specs.declared.Setup.{Setup}
 use Rattle.plain.specs.Plain.{plainSupply}
-use Rattle.rack.specs.declared.Rack.{Rack}
+use Rattle.slots.specs.declared.Rack.{Rack}
 use Rattle.rack.specs.declared.Fitted.{Fitted}
-use Rattle.rack.specs.View.{viewOf}
+use Rattle.slots.specs.View.{viewOf}
 
 -- a model number, or 255 for an empty slot
 abbrev pub allowed : ℕ → Bool

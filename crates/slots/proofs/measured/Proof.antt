@@ -1,11 +1,11 @@
 -- `measured` meets its contract.
 use mathlib.Core.Path.{refl}
 use borrow.Author.Needs.{needs}
-use Rattle.rack.proofs.Fairness.{sized}
-use Rattle.rack.proofs.measured.Statement.{statement}
-use Rattle.rack.proofs.measured.Tie as tie
-use Rattle.rack.proofs.measured.Reads as reads
-use Rattle.rack.proofs.measured.Lts as lts
+use Rattle.slots.proofs.Fairness.{sized}
+use Rattle.slots.proofs.measured.Statement.{statement}
+use Rattle.slots.proofs.measured.Tie as tie
+use Rattle.slots.proofs.measured.Reads as reads
+use Rattle.slots.proofs.measured.Lts as lts
 
 -- src/lib.rt:33:1
 returns : tie.Need-returns

@@ -25,8 +25,8 @@ use Rattle.serial.proofs.Chars.{char-on}
 use Rattle.plain.specs.Plain.{plainSupply, grammar, replyTo, classOf}
 use Rattle.plain.specs.Classes.{Classes}
 use Rattle.plain.proofs.Classes.{classes}
-use Rattle.rack.specs.declared.Rack.{Rack}
-use Rattle.rack.specs.View.{Fair, ended}
+use Rattle.slots.specs.declared.Rack.{Rack}
+use Rattle.slots.specs.View.{Fair, ended}
 
 -- a supply within its widths
 pub sized : (s : Supply) → s .pv < 2 ^ 32 → s .pc < 2 ^ 32 → s .ovp < 2 ^ 32 → s .uvl < 2 ^ 32 → s .«volt_count» < 2 ^ 16 → s .«amp_count» < 2 ^ 16 → Sized s

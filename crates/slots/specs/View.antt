@@ -16,7 +16,7 @@ use Rattle.command.specs.declared.Asks.the-variants.{Everyone, One}
 use Rattle.command.specs.Lines.{heardAs, heardOf}
 use Rattle.serial.specs.View.{wireOf}
 use Rattle.plain.specs.Plain.{plainSupply, grammar, classOf}
-use Rattle.rack.specs.declared.Rack.{Rack}
+use Rattle.slots.specs.declared.Rack.{Rack}
 
 -- setup and slots as they are, and the line without the characters that are no longer kept
 abbrev pub viewOf : Rack → wire.Rack Supply

@@ -1,12 +1,12 @@
 -- `select_slot` meets its contract.
 use mathlib.Core.Path.{_≡_, sym, ap, _∙_}
-use Rattle.rack.proofs.Steps.{select-fitted, select-empty}
+use Rattle.slots.proofs.Steps.{select-fitted, select-empty}
 use borrow.Author.Needs.{needs}
-use Rattle.rack.proofs.select_slot.Statement.{statement}
-use Rattle.rack.proofs.select_slot.Tie as tie
-use Rattle.rack.proofs.select_slot.Reads as reads
-use Rattle.rack.proofs.select_slot.Lts as lts
-use Rattle.rack.proofs.with_line.Reads as with-line-reads
+use Rattle.slots.proofs.select_slot.Statement.{statement}
+use Rattle.slots.proofs.select_slot.Tie as tie
+use Rattle.slots.proofs.select_slot.Reads as reads
+use Rattle.slots.proofs.select_slot.Lts as lts
+use Rattle.slots.proofs.with_line.Reads as with-line-reads
 use Rattle.reply.proofs.put_code_reply.Reads as put-code-reply-reads
 use Rattle.serial.proofs.cleared.Reads as cleared-reads
 use Rattle.serial.proofs.has_supply.Reads as has-supply-reads

@@ -30,8 +30,8 @@ use Rattle.serial.specs.View.{wireOf, orderedAt, Typed}
 use Rattle.serial.proofs.Chars.{char-on}
 use borrow.Author.Tests.{ne-eqb}
 use Rattle.plain.specs.Plain.{plainSupply, grammar, stepOf, replyTo, classBy, classOf}
-use Rattle.rack.specs.declared.Rack.{Rack}
-use Rattle.rack.specs.View.{viewOf, Moves}
+use Rattle.slots.specs.declared.Rack.{Rack}
+use Rattle.slots.specs.View.{viewOf, Moves}
 
 -- the line after its CR, with a slot selected
 pub record Cleared (l : Line) (sel : ℕ) : Type 0 where

@@ -1,20 +1,20 @@
 -- `end_line` meets its contract.
 use mathlib.Core.Path.{_≡_, sym, ap, _∙_}
-use Rattle.rack.proofs.Steps.{by-heard, in-error, unheard, heard-is}
-use Rattle.rack.proofs.Fairness.{ended-fair}
+use Rattle.slots.proofs.Steps.{by-heard, in-error, unheard, heard-is}
+use Rattle.slots.proofs.Fairness.{ended-fair}
 use Rattle.command.specs.declared.Heard.{Heard}
 use borrow.Author.Needs.{needs}
-use Rattle.rack.proofs.end_line.Statement.{statement}
-use Rattle.rack.proofs.end_line.Tie as tie
-use Rattle.rack.proofs.end_line.Reads as reads
-use Rattle.rack.proofs.end_line.Lts as lts
-use Rattle.rack.proofs.measured.Reads as measured-reads
-use Rattle.rack.proofs.say_code.Reads as say-code-reads
-use Rattle.rack.proofs.select_slot.Reads as select-slot-reads
-use Rattle.rack.proofs.slot_at.Reads as slot-at-reads
-use Rattle.rack.proofs.tell_all.Reads as tell-all-reads
-use Rattle.rack.proofs.tell_one.Reads as tell-one-reads
-use Rattle.rack.proofs.with_line.Reads as with-line-reads
+use Rattle.slots.proofs.end_line.Statement.{statement}
+use Rattle.slots.proofs.end_line.Tie as tie
+use Rattle.slots.proofs.end_line.Reads as reads
+use Rattle.slots.proofs.end_line.Lts as lts
+use Rattle.slots.proofs.measured.Reads as measured-reads
+use Rattle.slots.proofs.say_code.Reads as say-code-reads
+use Rattle.slots.proofs.select_slot.Reads as select-slot-reads
+use Rattle.slots.proofs.slot_at.Reads as slot-at-reads
+use Rattle.slots.proofs.tell_all.Reads as tell-all-reads
+use Rattle.slots.proofs.tell_one.Reads as tell-one-reads
+use Rattle.slots.proofs.with_line.Reads as with-line-reads
 use Rattle.serial.proofs.cleared.Reads as cleared-reads
 use Rattle.serial.proofs.hear.Reads as hear-reads
 

@@ -1,12 +1,12 @@
 -- `say_code` meets its contract.
 use mathlib.Core.Path.{_≡_, sym, ap, _∙_}
-use Rattle.rack.proofs.Steps.{code-fitted, code-empty}
+use Rattle.slots.proofs.Steps.{code-fitted, code-empty}
 use borrow.Author.Needs.{needs}
-use Rattle.rack.proofs.say_code.Statement.{statement}
-use Rattle.rack.proofs.say_code.Tie as tie
-use Rattle.rack.proofs.say_code.Reads as reads
-use Rattle.rack.proofs.say_code.Lts as lts
-use Rattle.rack.proofs.with_line.Reads as with-line-reads
+use Rattle.slots.proofs.say_code.Statement.{statement}
+use Rattle.slots.proofs.say_code.Tie as tie
+use Rattle.slots.proofs.say_code.Reads as reads
+use Rattle.slots.proofs.say_code.Lts as lts
+use Rattle.slots.proofs.with_line.Reads as with-line-reads
 use Rattle.reply.proofs.put_code_reply.Reads as put-code-reply-reads
 use Rattle.serial.proofs.cleared.Reads as cleared-reads
 use Rattle.serial.proofs.has_supply.Reads as has-supply-reads

@@ -1,13 +1,13 @@
 -- `tell_one` meets its contract.
 use mathlib.Core.Path.{_≡_, sym, ap, _∙_}
-use Rattle.rack.proofs.Steps.{asked, asked-nobody}
+use Rattle.slots.proofs.Steps.{asked, asked-nobody}
 use borrow.Author.Needs.{needs}
-use Rattle.rack.proofs.tell_one.Statement.{statement}
-use Rattle.rack.proofs.tell_one.Tie as tie
-use Rattle.rack.proofs.tell_one.Reads as reads
-use Rattle.rack.proofs.tell_one.Lts as lts
-use Rattle.rack.proofs.set_slot.Reads as set-slot-reads
-use Rattle.rack.proofs.with_line.Reads as with-line-reads
+use Rattle.slots.proofs.tell_one.Statement.{statement}
+use Rattle.slots.proofs.tell_one.Tie as tie
+use Rattle.slots.proofs.tell_one.Reads as reads
+use Rattle.slots.proofs.tell_one.Lts as lts
+use Rattle.slots.proofs.set_slot.Reads as set-slot-reads
+use Rattle.slots.proofs.with_line.Reads as with-line-reads
 use Rattle.reply.proofs.obey.Reads as obey-reads
 use Rattle.serial.proofs.cleared.Reads as cleared-reads
 use Rattle.serial.proofs.has_supply.Reads as has-supply-reads

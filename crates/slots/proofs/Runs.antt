@@ -16,8 +16,8 @@ use Rattle.wire.proofs.ForCode.{replies-append, scan-more}
 use Rattle.supply.specs.declared.Supply.{Supply}
 use Rattle.plain.specs.Plain.{plainSupply, grammar}
 use Rattle.serial.specs.View.{wireOf}
-use Rattle.rack.specs.declared.Rack.{Rack}
-use Rattle.rack.specs.View.{viewOf, Moves, Fair, scanned}
+use Rattle.slots.specs.declared.Rack.{Rack}
+use Rattle.slots.specs.View.{viewOf, Moves, Fair, scanned}
 
 module _ (r q : Rack) (s : Sent) (v : viewOf q ≡ moved plainSupply (viewOf r) s) where
   same-setup : q .setup ≡ r .setup
