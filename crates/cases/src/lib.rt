@@ -1,0 +1,246 @@
+// A case of the supply as a row of 38 numbers has it: the state before, an act, and what is expected of it. Makes the
+// state and the act of the numbers, and tells whether the supply does what the row expects. The program `trials` reads
+// the rows; tests/src/trial.rs tells what each number is.
+ghost use Prim.Native.Nat.{_<_};
+use supply::Act;
+use supply::Answer;
+use supply::Key;
+use supply::Order;
+use supply::Query;
+use supply::Supply;
+use supply::Target;
+use supply::Word;
+
+// How many numbers a row has, and where its parts begin. The model is the first number.
+pub const CELLS: usize = 38;
+
+const BEFORE: usize = 1;
+
+const ACT: usize = 16;
+
+const CODE: usize = 19;
+
+const AFTER: usize = 20;
+
+const ANSWER: usize = 35;
+
+fn target_of(n: u64) -> Target {
+    match n {
+        0 => Target::Pv,
+        1 => Target::Pc,
+        2 => Target::Ovp,
+        _ => Target::Uvl,
+    }
+}
+
+fn key_of(n: u64) -> Key {
+    match n {
+        0 => Key::Output,
+        1 => Key::Fold,
+        _ => Key::Local,
+    }
+}
+
+fn query_of(n: u64) -> Query {
+    match n {
+        0 => Query::Pv,
+        1 => Query::Pc,
+        2 => Query::Ovp,
+        3 => Query::Uvl,
+        4 => Query::Mv,
+        5 => Query::Mc,
+        6 => Query::Out,
+        7 => Query::Fld,
+        8 => Query::Ast,
+        9 => Query::Rmt,
+        10 => Query::Mode,
+        11 => Query::Flt,
+        12 => Query::Fena,
+        _ => Query::Feve,
+    }
+}
+
+fn byte_of(n: u64) -> u8 {
+    (n % 256) as u8
+}
+
+fn count_of(n: u64) -> u16 {
+    (n % 65536) as u16
+}
+
+fn figure_of(n: u64) -> u32 {
+    (n % 0x1_0000_0000) as u32
+}
+
+// The orders are the kinds of act from 5 to 13.
+fn order_of(kind: u64, a: u64, b: u64) -> Order {
+    match kind {
+        5 => Order::Set(target_of(a), b),
+        6 => Order::Ovm,
+        7 => Order::Out(a == 1),
+        8 => Order::Fld(a == 1),
+        9 => Order::Ast(a == 1),
+        10 => Order::Rmt(byte_of(a)),
+        11 => Order::Fena(byte_of(a)),
+        12 => Order::Cls,
+        _ => Order::Rst,
+    }
+}
+
+// An act by its kind and two operands.
+fn act_of(kind: u64, a: u64, b: u64) -> Act {
+    match kind {
+        0 => Act::Nothing,
+        1 => Act::Lines(byte_of(a)),
+        2 => Act::Sample(count_of(a), count_of(b)),
+        3 => Act::Press(key_of(a)),
+        4 => Act::Turn(target_of(a), figure_of(b)),
+        14 => Act::Ask(query_of(a)),
+        _ => Act::Obey(order_of(kind, a, b)),
+    }
+}
+
+// How many values the first operand of a kind of act has: none where there is no such kind.
+fn first_values(kind: u64) -> u64 {
+    match kind {
+        0 | 6 | 12 | 13 => 1,
+        7 | 8 | 9 => 2,
+        3 | 10 => 3,
+        4 | 5 => 4,
+        14 => 14,
+        1 | 11 => 256,
+        2 => 65536,
+        _ => 0,
+    }
+}
+
+// How many values the second operand has.
+fn second_values(kind: u64) -> u64 {
+    match kind {
+        2 => 65536,
+        4 => 0x1_0000_0000,
+        5 => u64::MAX,
+        _ => 1,
+    }
+}
+
+// The supply whose state begins at a cell.
+fn supply_at(row: &[u64; CELLS], at: usize) -> Supply
+    requires { ⌜ at < 21 ⌝ }
+{
+    Supply {
+        pv: figure_of(row[at]),
+        pc: figure_of(row[at + 1]),
+        ovp: figure_of(row[at + 2]),
+        uvl: figure_of(row[at + 3]),
+        want: row[at + 4] == 1,
+        armed: row[at + 5] == 1,
+        ast: row[at + 6] == 1,
+        mode: byte_of(row[at + 7]),
+        lines: byte_of(row[at + 8]),
+        fold_trip: row[at + 9] == 1,
+        ovp_trip: row[at + 10] == 1,
+        fena: byte_of(row[at + 11]),
+        feve: byte_of(row[at + 12]),
+        volt_count: count_of(row[at + 13]),
+        amp_count: count_of(row[at + 14]),
+    }
+}
+
+fn settings_agree(row: &[u64; CELLS], at: usize, s: Supply) -> bool
+    requires { ⌜ at < 21 ⌝ }
+{
+    (row[at] == s.pv as u64)
+        & (row[at + 1] == s.pc as u64)
+        & (row[at + 2] == s.ovp as u64)
+        & (row[at + 3] == s.uvl as u64)
+}
+
+fn switches_agree(row: &[u64; CELLS], at: usize, s: Supply) -> bool
+    requires { ⌜ at < 21 ⌝ }
+{
+    (row[at + 4] == s.want as u64)
+        & (row[at + 5] == s.armed as u64)
+        & (row[at + 6] == s.ast as u64)
+        & (row[at + 7] == s.mode as u64)
+        & (row[at + 9] == s.fold_trip as u64)
+        & (row[at + 10] == s.ovp_trip as u64)
+}
+
+fn bytes_agree(row: &[u64; CELLS], at: usize, s: Supply) -> bool
+    requires { ⌜ at < 21 ⌝ }
+{
+    (row[at + 8] == s.lines as u64)
+        & (row[at + 11] == s.fena as u64)
+        & (row[at + 12] == s.feve as u64)
+}
+
+fn counts_agree(row: &[u64; CELLS], at: usize, s: Supply) -> bool
+    requires { ⌜ at < 21 ⌝ }
+{
+    (row[at + 13] == s.volt_count as u64) & (row[at + 14] == s.amp_count as u64)
+}
+
+// Whether a supply is, in every part of its state, the one that begins at a cell.
+fn supply_agrees(row: &[u64; CELLS], at: usize, s: Supply) -> bool
+    requires { ⌜ at < 21 ⌝ }
+{
+    settings_agree(row, at, s)
+        & switches_agree(row, at, s)
+        & bytes_agree(row, at, s)
+        & counts_agree(row, at, s)
+}
+
+fn word_number(w: Word) -> u64 {
+    match w {
+        Word::On => 0,
+        Word::Off => 1,
+        Word::Loc => 2,
+        Word::Rem => 3,
+        Word::Llo => 4,
+        Word::Cc => 5,
+        Word::Cv => 6,
+    }
+}
+
+fn answer_is(row: &[u64; CELLS], kind: u64, a: u64, b: u64) -> bool {
+    (row[ANSWER] == kind) & (row[ANSWER + 1] == a) & (row[ANSWER + 2] == b)
+}
+
+fn answer_agrees(row: &[u64; CELLS], a: Answer) -> bool {
+    match a {
+        Answer::Figure(decimals, n) => answer_is(row, 1, decimals as u64, n),
+        Answer::Says(w) => answer_is(row, 2, word_number(w), 0),
+        Answer::Hex(b) => answer_is(row, 3, b as u64, 0),
+    }
+}
+
+// A query is answered from the supply before it; no other act has an answer.
+fn reply_agrees(row: &[u64; CELLS], model: u8, s: Supply, a: Act) -> bool {
+    match a {
+        Act::Ask(q) => answer_agrees(row, acts::answer_to(model, s, q)),
+        _ => answer_is(row, 0, 0, 0),
+    }
+}
+
+// Whether there are such a model, such an act, and the supply that was made of the row.
+fn row_reads(row: &[u64; CELLS], before: Supply) -> bool {
+    let kind = row[ACT];
+    (row[0] < 12)
+        & supply_agrees(row, BEFORE, before)
+        & (row[ACT + 1] < first_values(kind))
+        & (row[ACT + 2] < second_values(kind))
+}
+
+// Whether the supply does what the row expects.
+pub fn row_holds(row: &[u64; CELLS]) -> bool {
+    let model = byte_of(row[0]);
+    let before = supply_at(row, BEFORE);
+    let act = act_of(row[ACT], row[ACT + 1], row[ACT + 2]);
+    let done = acts::perform(model, before, act);
+    let after = done.supply;
+    row_reads(row, before)
+        & (row[CODE] == done.code as u64)
+        & supply_agrees(row, AFTER, after)
+        & reply_agrees(row, model, before, act)
+}
