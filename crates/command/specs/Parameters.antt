@@ -9,9 +9,11 @@ use Rattle.figures.specs.declared.Number.{Number}
 use Rattle.figures.specs.Digits.{allDigits, runValue}
 use Rattle.figures.specs.Number.{readNumber, numberIs, noNumber}
 use Rattle.figures.specs.Hex.{readHex}
+use Rattle.supply.specs.State.{c05}
 use Rattle.command.specs.declared.Parameter.{Parameter}
 
--- the codes of a line that no supply is asked about; a code reads as its name in hexadecimal
+-- the codes of a line that no supply is asked about; a code reads as its name in hexadecimal. C05 is an order's too, and
+-- stands with those
 abbrev pub c01 : ℕ
 c01 = 0xC1
 
@@ -23,9 +25,6 @@ c03 = 0xC3
 
 abbrev pub c04 : ℕ
 c04 = 0xC4
-
-abbrev pub c05 : ℕ
-c05 = 0xC5
 
 abbrev pub valueIs : ℕ → Parameter
 valueIs v = record { code = 0; value = v }

@@ -6,12 +6,12 @@ ghost use lib.ListN.{length, drop};
 ghost use Rattle.base.specs.Choice.{pick};
 ghost use Rattle.figures.specs.declared.Number.{Number};
 ghost use Rattle.words.specs.Words.{findNumber};
-ghost use Rattle.figures.specs.Number.{noNumber};
 ghost use Rattle.command.specs.Parameters.{bare, number, switch, hex, address, readAddress, readSwitch, needed, within30, parameterOf};
 ghost use Rattle.command.specs.Words.{commands, unknownWord, toOne, ofOne, toAll, selecting, askedBy};
 ghost use Rattle.command.specs.Lines.{heardAs, rightSum, asksOf, heardOf};
 use figures::Number;
 use supply::Act;
+use supply::C05;
 use supply::Order;
 use supply::Query;
 use supply::Target;
@@ -47,8 +47,6 @@ const C03: u8 = 0xC3;
 
 const C04: u8 = 0xC4;
 
-const C05: u8 = 0xC5;
-
 // A parameter that is needed: C02 where it is empty, C03 where it is no number.
 fn need(n: Number, x: &[u8]) -> Parameter
     ensures { λ r. ⌜ r ≡ needed n (now (x .entry)) ⌝ }
@@ -72,29 +70,20 @@ fn need(n: Number, x: &[u8]) -> Parameter
     }
 }
 
-fn no_number() -> Number
-    ensures { λ r. ⌜ r ≡ noNumber ⌝ }
-{
-    Number {
-        good: false,
-        value: 0,
-    }
-}
-
 // One digit from 0 to most.
 fn read_switch(x: &[u8], most: u8) -> Number
     requires { ⌜ most < 10 ⌝ }
     ensures { λ r. ⌜ (r ≡ readSwitch most (now (x .entry))) × (r .value < 256) ⌝ }
 {
     if x.len() != 1 {
-        return no_number();
+        return figures::no_number();
     }
     let b = x[0];
     if b < 48 {
-        return no_number();
+        return figures::no_number();
     }
     if 48 + most < b {
-        return no_number();
+        return figures::no_number();
     }
     Number {
         good: true,
@@ -108,7 +97,7 @@ fn read_address(x: &[u8]) -> Number
 {
     let n = x.len();
     if 2 < n {
-        return no_number();
+        return figures::no_number();
     }
     if figures::all_digits(x) {
         Number {
@@ -116,7 +105,7 @@ fn read_address(x: &[u8]) -> Number
             value: figures::run_value(x, n),
         }
     } else {
-        no_number()
+        figures::no_number()
     }
 }
 

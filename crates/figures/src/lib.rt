@@ -135,7 +135,8 @@ pub fn read_number(s: &[u8], k: usize) -> Number
     }
 }
 
-fn no_number() -> Number
+// The answer to what is no number.
+pub fn no_number() -> Number
     ensures { λ r. ⌜ r ≡ noNumber ⌝ }
 {
     Number {

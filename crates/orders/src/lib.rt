@@ -9,11 +9,10 @@ ghost use Rattle.supply.specs.With.{withOvp, withAst, withMode, withFena};
 ghost use Rattle.supply.specs.State.{c05, e01, e02, e04, e06};
 ghost use Rattle.settings.specs.Settings.{withSetting};
 ghost use Rattle.orders.specs.Orders.{above105, setCode, outCode, orderCode, remote, remoteBy, outDone, fldDone, reset, ordered};
+use supply::C05;
 use supply::Order;
 use supply::Supply;
 use supply::Target;
-
-const C05: u8 = 0xC5;
 
 const E01: u8 = 0xE1;
 

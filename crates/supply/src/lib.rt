@@ -22,6 +22,9 @@ pub struct Supply {
     pub amp_count: u16,
 }
 
+// C05: a figure beyond its limits, or an address above 30. It is the one code that both an order and a line can draw.
+pub const C05: u8 = 0xC5;
+
 pub enum Target {
     Pv,
     Pc,

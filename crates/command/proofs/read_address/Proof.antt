@@ -7,8 +7,8 @@ use Rattle.command.proofs.read_address.Statement.{statement}
 use Rattle.command.proofs.read_address.Tie as tie
 use Rattle.command.proofs.read_address.Reads as reads
 use Rattle.command.proofs.read_address.Lts as lts
-use Rattle.command.proofs.no_number.Reads as no-number-reads
 use Rattle.figures.proofs.all_digits.Reads as all-digits-reads
+use Rattle.figures.proofs.no_number.Reads as no-number-reads
 use Rattle.figures.proofs.run_value.Reads as run-value-reads
 
 -- src/lib.rt:107:9

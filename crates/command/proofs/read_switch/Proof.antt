@@ -7,7 +7,7 @@ use Rattle.command.proofs.read_switch.Tie as tie
 use Rattle.command.proofs.read_switch.Reads as reads
 use Rattle.command.proofs.read_switch.Lts as lts
 use Rattle.base.proofs.wide.Reads as wide-reads
-use Rattle.command.proofs.no_number.Reads as no-number-reads
+use Rattle.figures.proofs.no_number.Reads as no-number-reads
 
 -- src/lib.rt:86:9
 no-number-requires : tie.Need-no-number-requires
