@@ -42,12 +42,16 @@ pub const MODELS: [Model; 12] = [
 
 impl Model {
     /// PV and PC may go to 105 % of the rating, which is a whole tick or mA for every model.
+    fn most_of(rating: i64) -> i64 {
+        rating * 105 / 100
+    }
+
     pub fn pv_most(&self) -> i64 {
-        self.rated_volts * 105 / 100
+        Model::most_of(self.rated_volts)
     }
 
     pub fn pc_most(&self) -> i64 {
-        self.rated_amperes * 105 / 100
+        Model::most_of(self.rated_amperes)
     }
 }
 
