@@ -1,3 +1,4 @@
 pub mod Calls
 pub mod Fitting
 pub mod Isolation
+pub mod Existence

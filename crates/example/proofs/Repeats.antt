@@ -1,0 +1,100 @@
+-- A run repeats: equal shares leave equal supplies, and calls that are no concern of a slot are not in its share.
+use Prim.Native.Nat.{ℕ}
+use mathlib.Core.Path.{_≡_, refl, sym, ap, _∙_}
+use mathlib.Core.Bool.{Bool, true, false, true≢false, not}
+use mathlib.Core.List.{List, [], _∷_, _++_}
+use lib.Dec.{eqb}
+use borrow.Author.Tests.{ne-eqb, not-true}
+use Rattle.base.specs.Choice.{pick}
+use Rattle.base.proofs.Choice.{and-both}
+use Rattle.wire.specs.Machine.{keep, flat}
+use Rattle.wire.specs.Wire.{Class, Delivery, one, line, Item, byte, event, Entry, Call, modelAt, fitted, nobody, parse}
+use Rattle.wire.specs.declared.Setup.{Setup}
+use Rattle.wire.specs.Share.{typed, ended, items, stream, pieces, routes, selected, handed, brought, forSlot, shareOf}
+use Rattle.wire.proofs.Machine.{flat-append}
+use Rattle.supply.specs.declared.Supply.{Supply}
+use Rattle.supply.specs.Flt.{onOf}
+use Rattle.acts.specs.Answers.{answerOf}
+use Rattle.plain.specs.Plain.{grammar, replyTo}
+use Rattle.slots.specs.declared.Rack.{Rack}
+use Rattle.rack.specs.Demand3.{setupOf, supplyAt}
+use Rattle.rack.proofs.Isolation.{isolated-code}
+use Rattle.example.specs.Repeats.{SameSupply, SharesRepeat, elsewhere, concerns, NeighboursDoNotCount}
+
+same : (m : ℕ) (r : Rack) (a : ℕ) (r₂ : Rack) (b : ℕ) → supplyAt r a ≡ supplyAt r₂ b → SameSupply m r a r₂ b
+same m r a r₂ b e =
+    record {
+      state = e;
+      output = ap onOf e;
+      answer = λ q. ap (λ (s : Supply). answerOf m s q) e;
+      reply = λ x. ap (λ (s : Supply). replyTo m s x) e;
+    }
+
+is-fitted : (m : ℕ) → (m ≡ 255 → ⊥) → not (eqb m 255) ≡ true
+is-fitted m n = rw (ne-eqb m 255 n) refl
+
+pub shares-repeat : SharesRepeat
+shares-repeat l l₂ calls calls₂ r r₂ a b g g₂ n m e =
+    same _ r a r₂ b (isolated-code l calls a (is-fitted _ n) .alike r g l₂ calls₂ r₂ b g₂ m e)
+
+module _ (u : Setup) (a : ℕ) where
+  -- what slot a takes of a stream, where these bytes have come since the last CR and this slot is selected
+  taken : List ℕ → ℕ → List Item → List Entry
+  taken bytes sel is = flat (forSlot u a) (routes grammar u sel (pieces bytes is))
+
+  -- two streams of which slot a takes the same, whatever came before
+  abbrev Alike : List Item → List Item → Type 0
+  Alike is js = (bytes : List ℕ) (sel : ℕ) → taken bytes sel is ≡ taken bytes sel js
+
+  -- a line with its CR: what it hands out comes before what follows
+  line-on : (bytes : List ℕ) (sel : ℕ) (is js : List Item) → Alike is js
+      → flat (forSlot u a) (routes grammar u sel (ended (typed bytes) ∷ pieces [] is)) ≡ flat (forSlot u a) (routes grammar u sel (ended (typed bytes) ∷ pieces [] js))
+  unfolding taken
+  line-on bytes sel is js h =
+      let c : Class = grammar .classOf (typed bytes .kept) (typed bytes .spoiled) in
+      let goes : List Delivery = handed u sel (line (typed bytes .kept) (typed bytes .spoiled)) c in
+      flat-append (forSlot u a) goes (routes grammar u (selected u sel c) (pieces [] is))
+      ∙ ap (λ (x : List Entry). flat (forSlot u a) goes ++ x) (h [] (selected u sel c))
+      ∙ sym (flat-append (forSlot u a) goes (routes grammar u (selected u sel c) (pieces [] js)))
+
+  byte-on : (b : ℕ) (is js : List Item) → Alike is js → Alike (byte b ∷ is) (byte b ∷ js)
+  unfolding taken
+  byte-on b is js h bytes sel = byEnd (eqb b 13)
+    where
+      byEnd : (t : Bool) → flat (forSlot u a) (routes grammar u sel (pick t (ended (typed bytes) ∷ pieces [] is) (pieces (bytes ++ b ∷ []) is))) ≡ flat (forSlot u a) (routes grammar u sel (pick t (ended (typed bytes) ∷ pieces [] js) (pieces (bytes ++ b ∷ []) js)))
+      byEnd true = line-on bytes sel is js h
+      byEnd false = h (bytes ++ b ∷ []) sel
+
+  behind : (is js ks : List Item) → Alike js ks → Alike (is ++ js) (is ++ ks)
+  unfolding taken
+  behind [] js ks h = h
+  behind (event b e ∷ is) js ks h = λ bytes sel. ap (λ (x : List Entry). forSlot u a (one b e) ++ x) (behind is js ks h bytes sel)
+  behind (byte b ∷ is) js ks h = byte-on b (is ++ js) (is ++ ks) (behind is js ks h)
+
+  past : (is js : List Item) → elsewhere a is ≡ true → Alike (is ++ js) js
+  unfolding taken
+  past [] js h bytes sel = refl
+  past (byte b ∷ is) js h bytes sel = absurd (true≢false (sym h))
+  past (event b e ∷ is) js h bytes sel =
+      let both = and-both (not (eqb a b)) (elsewhere a is) h in
+      rw (not-true (eqb a b) (both .0)) (past is js (both .1) bytes sel)
+
+  -- a call more, with or without its being dropped
+  own-step : (c : Call) (cs ds : List Call) → Alike (stream grammar u cs) (stream grammar u ds) → (t : Bool) → elsewhere a (items (parse grammar u c)) ≡ t
+      → Alike (stream grammar u (c ∷ cs)) (stream grammar u (pick (not t) (c ∷ ds) ds))
+  own-step c cs ds h true e bytes sel = past (items (parse grammar u c)) (stream grammar u cs) e bytes sel ∙ h bytes sel
+  own-step c cs ds h false e bytes sel = behind (items (parse grammar u c)) (stream grammar u cs) (stream grammar u ds) h bytes sel
+
+  -- the calls that concern slot a bring it what all calls bring it
+  own-stream : (calls : List Call) → Alike (stream grammar u calls) (stream grammar u (keep (concerns u a) calls))
+  own-stream [] = λ bytes sel. refl
+  own-stream (c ∷ cs) = own-step c cs (keep (concerns u a) cs) (own-stream cs) (elsewhere a (items (parse grammar u c))) refl
+
+  pub own-share : (calls : List Call) → shareOf grammar u calls a ≡ shareOf grammar u (keep (concerns u a) calls) a
+  unfolding brought taken
+  own-share calls = own-stream calls [] nobody
+
+pub neighbours-do-not-count : NeighboursDoNotCount
+neighbours-do-not-count l calls calls₂ r r₂ a g g₂ n e =
+    shares-repeat l l calls calls₂ r r₂ a a g g₂ n refl
+    (own-share (setupOf l) a calls ∙ ap (λ (x : List Call). shareOf grammar (setupOf l) x a) e ∙ sym (own-share (setupOf l) a calls₂))

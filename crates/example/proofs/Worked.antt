@@ -1,0 +1,101 @@
+-- The worked list of calls, by computation; and what demand 3 says of it.
+use Prim.Native.Nat.{ℕ}
+use mathlib.Core.Path.{_≡_, refl, sym, ap, _∙_}
+use mathlib.Core.List.{List, [], _∷_, _++_}
+use mathlib.Core.Bool.{true, false}
+use lib.Dec.{eqb}
+use Rattle.models.specs.Models.{table, limitsOf, voltReading, ampReading}
+use Rattle.figures.specs.Digits.{allDigits, runValue}
+use Rattle.figures.specs.Number.{firstAt, wellFormed, wholeUnits, scaledValue, readNumber}
+use Rattle.figures.specs.Hex.{isHex, hexOf, readHex, hexPair, total, checksum}
+use Rattle.figures.specs.Figure.{fixed, shortest, decimals, figure}
+use Rattle.supply.specs.State.{fresh}
+use Rattle.supply.specs.Flt.{fltOf, onOf, linesClear, inLimit, settled}
+use Rattle.settings.specs.Settings.{settingOf, withSetting, leastOf, mostOf, signedOf, nearestIn, stepped}
+use Rattle.events.specs.Events.{sampled, turnedOn, turned}
+use Rattle.orders.specs.Orders.{setCode, orderCode, remote, remoteBy, outDone, ordered}
+use Rattle.acts.specs.Acts.{codeOf, clearingQuery, clearingOrder, clearingAct, acted, performed}
+use Rattle.acts.specs.Answers.{answerOf}
+use Rattle.acts.specs.Releases.{Trip, ovp, releases}
+use Rattle.words.specs.Words.{findWord}
+use Rattle.command.specs.Parameters.{readAs, parameterOf}
+use Rattle.command.specs.Words.{askedBy}
+use Rattle.command.specs.Lines.{rightSum, asksOf, heardOf}
+use Rattle.reply.specs.Texts.{codeText, wordText, answerText, ending}
+use Rattle.reply.specs.Obeying.{saidOf}
+use Rattle.protocol.specs.Sent.{obeyed, repliedTo}
+use Rattle.field.specs.Fields.{lengthFits, headerCode, valuesFit, actOf, readField}
+use Rattle.wire.specs.Wire.{field, modelAt, byteOn, parse}
+use Rattle.wire.specs.Demand3.{TrippedBy}
+use Rattle.wire.specs.Share as share
+use Rattle.wire.specs.Share.{brought, shareOf}
+use Rattle.wire.specs.Rack.{callOf, freshRack, run, plain}
+use Rattle.plain.specs.Plain.{plainSupply, grammar, trips, stepOf, replyTo, classOf, releasesOf}
+use Rattle.slots.specs.declared.Rack.{Rack}
+use Rattle.rack.specs.Demand3.{Run, setupOf, supplyAt}
+use Rattle.rack.specs.Fit.{allAllowed, goodList}
+use Rattle.rack.proofs.Isolation.{isolated-code}
+use Rattle.rack.proofs.Existence.{some-run}
+use Rattle.example.specs.Worked.{fittingList, tripping, tripped, released, calls, listAlone, alone, answers, expected, typed, shareTripping, shareTripped, shareReleased, shareNeighbour, endState, WorkedOut}
+
+-- the unfoldings: lists and fields; lines; the supply and its replies
+share-6 : shareOf grammar (setupOf fittingList) calls 6 ≡ shareTripping ++ shareTripped ++ shareReleased
+unfolding fittingList calls tripping tripped released shareTripping shareTripped shareReleased brought share.typed parse readField headerCode lengthFits valuesFit classOf heardOf asksOf rightSum askedBy parameterOf readAs findWord readNumber scaledValue wholeUnits wellFormed firstAt runValue allDigits readHex hexOf isHex
+share-6 = refl
+
+-- up to the release
+share-6-tripped : shareOf grammar (setupOf fittingList) (tripping ++ tripped) 6 ≡ shareTripping ++ shareTripped
+unfolding fittingList calls tripping tripped released shareTripping shareTripped shareReleased brought share.typed parse readField headerCode lengthFits valuesFit classOf heardOf asksOf rightSum askedBy parameterOf readAs findWord readNumber scaledValue wholeUnits wellFormed firstAt runValue allDigits readHex hexOf isHex
+share-6-tripped = refl
+
+share-alone : shareOf grammar (setupOf listAlone) alone 6 ≡ shareTripping ++ shareTripped ++ shareReleased
+unfolding listAlone alone shareTripping shareTripped shareReleased brought share.typed parse readField headerCode lengthFits valuesFit classOf heardOf asksOf rightSum askedBy parameterOf readAs findWord readNumber scaledValue wholeUnits wellFormed firstAt runValue allDigits readHex hexOf isHex
+share-alone = refl
+
+replies : answers (freshRack plainSupply (setupOf fittingList)) calls ≡ expected
+unfolding fittingList calls tripping tripped released expected callOf byteOn parse readField headerCode lengthFits valuesFit classOf heardOf asksOf rightSum askedBy parameterOf readAs findWord readNumber scaledValue wholeUnits wellFormed firstAt runValue allDigits readHex hexOf isHex stepOf replyTo obeyed repliedTo saidOf codeText wordText answerText ending answerOf actOf performed acted clearingQuery clearingOrder clearingAct codeOf ordered outDone remote remoteBy orderCode setCode sampled turnedOn turned stepped nearestIn signedOf leastOf mostOf withSetting settingOf settled onOf linesClear inLimit fltOf fresh figure decimals shortest fixed checksum total hexPair voltReading ampReading limitsOf table
+replies = refl
+
+end-6 : plain plainSupply 0 (shareTripping ++ shareTripped ++ shareReleased) ≡ endState
+unfolding shareTripping shareTripped shareReleased endState classOf heardOf asksOf rightSum askedBy parameterOf readAs findWord readNumber scaledValue wholeUnits wellFormed firstAt runValue allDigits readHex hexOf isHex stepOf replyTo obeyed repliedTo saidOf codeText wordText answerText ending answerOf actOf performed acted clearingQuery clearingOrder clearingAct codeOf ordered outDone remote remoteBy orderCode setCode sampled turnedOn turned stepped nearestIn signedOf leastOf mostOf withSetting settingOf settled onOf linesClear inLimit fltOf fresh figure decimals shortest fixed checksum total hexPair voltReading ampReading limitsOf table
+end-6 = refl
+
+on-6 : onOf endState ≡ true
+unfolding endState onOf fltOf
+on-6 = refl
+
+tripped-6 : TrippedBy plainSupply trips 0 ovp (shareTripping ++ shareTripped)
+unfolding shareTripping shareTripped releasesOf releases classOf heardOf asksOf rightSum askedBy parameterOf readAs findWord readNumber scaledValue wholeUnits wellFormed firstAt runValue allDigits readHex hexOf isHex stepOf replyTo obeyed repliedTo saidOf codeText wordText answerText ending answerOf actOf performed acted clearingQuery clearingOrder clearingAct codeOf ordered outDone remote remoteBy orderCode setCode sampled turnedOn turned stepped nearestIn signedOf leastOf mostOf withSetting settingOf settled onOf linesClear inLimit fltOf fresh figure decimals shortest fixed checksum total hexPair voltReading ampReading limitsOf table
+tripped-6 =
+    record {
+      before = typed "PV 5" ∷ typed "OVP 5.5" ∷ typed "OUT 1" ∷ field 5 (6 ∷ 179 ∷ 9 ∷ 0 ∷ 0 ∷ []) ∷ [];
+      entry = field 5 (6 ∷ 179 ∷ 10 ∷ 0 ∷ 0 ∷ []);
+      mid = shareTripped;
+      splits = refl;
+      trips = refl;
+      unreleased = refl;
+    }
+
+share-9 : shareOf grammar (setupOf fittingList) (tripping ++ tripped) 9 ≡ shareNeighbour
+unfolding fittingList calls tripping tripped released shareNeighbour brought share.typed parse readField headerCode lengthFits valuesFit classOf heardOf asksOf rightSum askedBy parameterOf readAs findWord readNumber scaledValue wholeUnits wellFormed firstAt runValue allDigits readHex hexOf isHex
+share-9 = refl
+
+end-9 : (onOf (plain plainSupply 3 shareNeighbour) ≡ true) × (plain plainSupply 3 shareNeighbour .pv ≡ 53000)
+unfolding shareNeighbour classOf heardOf asksOf rightSum askedBy parameterOf readAs findWord readNumber scaledValue wholeUnits wellFormed firstAt runValue allDigits readHex hexOf isHex stepOf replyTo obeyed repliedTo saidOf codeText wordText answerText ending answerOf actOf performed acted clearingQuery clearingOrder clearingAct codeOf ordered outDone remote remoteBy orderCode setCode sampled turnedOn turned stepped nearestIn signedOf leastOf mostOf withSetting settingOf settled onOf linesClear inLimit fltOf fresh figure decimals shortest fixed checksum total hexPair voltReading ampReading limitsOf table
+end-9 = (refl, refl)
+
+pub worked-out : WorkedOut
+unfolding fittingList listAlone calls allAllowed
+worked-out =
+    record {
+      answers-are = replies;
+      share-is = share-6;
+      there-is-one = some-run fittingList calls refl;
+      ends-as = λ r g. isolated-code fittingList calls 6 refl .ends r g ∙ ap (plain plainSupply 0) share-6 ∙ end-6;
+      ends-on = on-6;
+      stays-off = λ r g. isolated-code fittingList calls 6 refl .calls-off ovp (tripping ++ tripped) released r refl g (rw share-6-tripped tripped-6);
+      neighbour-runs = λ r g.
+          let e : supplyAt r 9 ≡ plain plainSupply 3 shareNeighbour = isolated-code fittingList (tripping ++ tripped) 9 refl .ends r g ∙ ap (plain plainSupply 3) share-9 in
+          rw e end-9;
+      repeated = λ r r₂ g g₂. isolated-code fittingList calls 6 refl .alike r g listAlone alone r₂ 6 g₂ refl (share-6 ∙ sym share-alone);
+    }

@@ -1,0 +1,52 @@
+-- WHAT A CHEMIST HAS OF DEMAND 3: a run repeats whatever the neighbours do.
+use Prim.Native.Nat.{ℕ}
+use mathlib.Core.Path.{_≡_}
+use mathlib.Core.Bool.{Bool, true, false, not, _&&_}
+use mathlib.Core.List.{List, [], _∷_}
+use lib.Dec.{eqb}
+use Rattle.wire.specs.Machine.{keep}
+use Rattle.wire.specs.Wire.{Item, byte, event, Entry, Call, modelAt, parse}
+use Rattle.wire.specs.declared.Setup.{Setup}
+use Rattle.wire.specs.Share.{items, shareOf}
+use Rattle.supply.specs.declared.Query.{Query}
+use Rattle.supply.specs.Flt.{onOf}
+use Rattle.acts.specs.Answers.{answerOf}
+use Rattle.plain.specs.Plain.{grammar, replyTo}
+use Rattle.slots.specs.declared.Rack.{Rack}
+use Rattle.rack.specs.Demand3.{Run, setupOf, supplyAt}
+
+-- the supply of a model m at address a of one rack and at address b of another cannot be told apart: the whole state, the output,
+-- the answer to each query and the reply to whatever comes next
+pub record SameSupply (m : ℕ) (r : Rack) (a : ℕ) (r₂ : Rack) (b : ℕ) : Type 0 where
+  pub state : supplyAt r a ≡ supplyAt r₂ b
+  pub output : onOf (supplyAt r a) ≡ onOf (supplyAt r₂ b)
+  pub answer : (q : Query) → answerOf m (supplyAt r a) q ≡ answerOf m (supplyAt r₂ b) q
+  pub reply : (e : Entry) → replyTo m (supplyAt r a) e ≡ replyTo m (supplyAt r₂ b) e
+
+-- equal shares: two runs, in any two racks, that gave the supplies of one model the same entries in the same order
+abbrev pub SharesRepeat : Type 0
+SharesRepeat =
+    (l l₂ : List ℕ) (calls calls₂ : List Call) (r r₂ : Rack) (a b : ℕ)
+    → Run l calls r → Run l₂ calls₂ r₂
+    → (modelAt (setupOf l) a ≡ 255 → ⊥)
+    → modelAt (setupOf l) a ≡ modelAt (setupOf l₂) b
+    → shareOf grammar (setupOf l) calls a ≡ shareOf grammar (setupOf l₂) calls₂ b
+    → SameSupply (modelAt (setupOf l) a) r a r₂ b
+
+-- a call that is no concern of slot a: it is refused, or it is a field of tags 2 to 5 for another address
+abbrev pub elsewhere : ℕ → List Item → Bool
+elsewhere a [] = true
+elsewhere a (byte b ∷ is) = false
+elsewhere a (event b e ∷ is) = not (eqb a b) && elsewhere a is
+
+abbrev pub concerns : Setup → ℕ → Call → Bool
+concerns u a c = not (elsewhere a (items (parse grammar u c)))
+
+-- and the neighbours' fields alone: whatever fields of tags 2 to 5 went to other slots, and whatever was refused, at any places
+abbrev pub NeighboursDoNotCount : Type 0
+NeighboursDoNotCount =
+    (l : List ℕ) (calls calls₂ : List Call) (r r₂ : Rack) (a : ℕ)
+    → Run l calls r → Run l calls₂ r₂
+    → (modelAt (setupOf l) a ≡ 255 → ⊥)
+    → keep (concerns (setupOf l) a) calls ≡ keep (concerns (setupOf l) a) calls₂
+    → SameSupply (modelAt (setupOf l) a) r a r₂ a
