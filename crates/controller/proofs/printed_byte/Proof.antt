@@ -1,0 +1,21 @@
+-- `printed_byte` meets its contract.
+use mathlib.Core.Path.{refl}
+use borrow.Author.Tests.{ne-eqb, eq-eqb}
+use Rattle.controller.specs.Printed.{printed}
+use Rattle.controller.proofs.printed_byte.Statement.{statement}
+use Rattle.controller.proofs.printed_byte.Tie as tie
+use Rattle.controller.proofs.printed_byte.Reads as reads
+use Rattle.controller.proofs.printed_byte.Lts as lts
+
+-- src/main.rt:67:1
+returns : tie.Need-returns
+unfolding printed
+returns c = rw (eq-eqb _ 13 (c .if1 .taken)) refl
+
+-- src/main.rt:67:1
+returns-2 : tie.Need-returns-2
+unfolding printed
+returns-2 c = rw (ne-eqb _ 13 (c .if1 .left)) refl
+
+pub printed-byte-spec : {M : Type 1} → statement M
+printed-byte-spec = tie.close (tie.spec returns returns-2)
