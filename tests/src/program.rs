@@ -1,6 +1,7 @@
-//! The program around the rack: the whole standard input as bytes, to the bytes printed.
+//! The program around the rack: bytes of standard input to the bytes printed, for an input that is
+//! there as a whole and for one that comes in pieces.
 
-use crate::rack::{Rack, SLOTS};
+use crate::rack::{Rack, CUT_SHORT, LEAST_ROOM, NO_HEADER, SLOTS};
 
 /// What the program prints for this input: replies with LF for CR, then a refusal if one comes.
 pub fn run(input: &[u8]) -> Vec<u8> {
@@ -11,7 +12,7 @@ pub fn run(input: &[u8]) -> Vec<u8> {
         Err(number) => return refused(printed, number),
     };
     while !rest.is_empty() {
-        match rack.call(rest, crate::rack::LEAST_ROOM) {
+        match rack.call(rest, LEAST_ROOM) {
             Ok((used, replies)) => {
                 printed.extend(with_line_feeds(&replies));
                 rest = &rest[used..];
@@ -30,4 +31,66 @@ pub fn with_line_feeds(replies: &[u8]) -> Vec<u8> {
 fn refused(mut printed: Vec<u8>, number: u8) -> Vec<u8> {
     printed.extend(format!("refused {number}\n").bytes());
     printed
+}
+
+/// The program between two pieces of its input. It answers a field with the piece that brings the
+/// field's last byte, and refuses with the piece after which no further byte can mend it.
+#[derive(Default)]
+pub struct Running {
+    /// None until the fitting list is there.
+    rack: Option<Rack>,
+    /// The start of a field, or of the fitting list, whose end has not come yet.
+    waiting: Vec<u8>,
+    over: bool,
+}
+
+impl Running {
+    /// Whether the program has ended, so that it takes nothing more.
+    pub fn over(&self) -> bool {
+        self.over
+    }
+
+    /// Takes the next piece and adds to what is printed. An empty piece is the end of the input.
+    pub fn take(&mut self, piece: &[u8], printed: &mut Vec<u8>) {
+        if self.over {
+            return;
+        }
+        self.waiting.extend(piece);
+        let last = piece.is_empty();
+        match self.work(last, printed) {
+            Ok(used) => {
+                self.waiting.drain(..used);
+            }
+            Err(number) => {
+                *printed = refused(std::mem::take(printed), number);
+                self.over = true;
+            }
+        }
+        self.over |= last;
+    }
+
+    /// Works all that is there in whole; answers how many bytes that was.
+    fn work(&mut self, last: bool, printed: &mut Vec<u8>) -> Result<usize, u8> {
+        let mut used = 0;
+        if self.rack.is_none() {
+            if self.waiting.len() < SLOTS && !last {
+                return Ok(0);
+            }
+            used = self.waiting.len().min(SLOTS);
+            self.rack = Some(Rack::fit(&self.waiting[..used])?);
+        }
+        let Some(rack) = &mut self.rack else { return Ok(used) };
+        while used < self.waiting.len() {
+            match rack.call(&self.waiting[used..], LEAST_ROOM) {
+                Ok((taken, replies)) => {
+                    printed.extend(with_line_feeds(&replies));
+                    used += taken;
+                }
+                // More bytes may still make a field of these.
+                Err(NO_HEADER | CUT_SHORT) if !last => break,
+                Err(number) => return Err(number),
+            }
+        }
+        Ok(used)
+    }
 }
