@@ -5,6 +5,7 @@ pub mod cases;
 pub mod compare;
 pub mod generate;
 pub mod line;
+pub mod live;
 pub mod outside;
 pub mod program;
 pub mod rack;

@@ -1,7 +1,7 @@
 //! Runs a program from outside: bytes to its standard input, its standard output back.
 
 use std::io::{ErrorKind, Read, Write};
-use std::process::{Child, Command, Stdio};
+use std::process::{Child, Command, ExitStatus, Stdio};
 use std::sync::mpsc::channel;
 use std::time::Duration;
 
@@ -10,7 +10,8 @@ const PATIENCE: Duration = Duration::from_secs(20);
 /// What a pipe surely takes without anyone reading at the other end.
 const PIPE_ROOM: usize = 60_000;
 
-fn start(program: &str) -> Result<Child, String> {
+/// Starts the program with both its pipes in our hands.
+pub fn start(program: &str) -> Result<Child, String> {
     Command::new(program)
         .stdin(Stdio::piped())
         .stdout(Stdio::piped())
@@ -32,11 +33,15 @@ pub fn run(program: &str, input: &[u8]) -> Result<Vec<u8>, String> {
     feed(&mut child, input)?;
     let printed = collect(&mut child)?;
     let status = child.wait().map_err(|error| error.to_string())?;
-    // A refusal may end with any number of its own; a panic or a signal is a fault.
-    match status.code() {
-        Some(101) | None => Err(format!("{program} broke down ({status})")),
-        Some(_) => Ok(printed),
+    match broke_down(status) {
+        true => Err(format!("{program} broke down ({status})")),
+        false => Ok(printed),
     }
+}
+
+/// A refusal may end with any number of its own; a panic or a signal is a fault.
+pub fn broke_down(status: ExitStatus) -> bool {
+    matches!(status.code(), Some(101) | None)
 }
 
 /// Small inputs go straight into the pipe; a longer one needs a writer beside the reader.
