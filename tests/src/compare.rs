@@ -3,6 +3,7 @@
 
 use std::sync::atomic::{AtomicBool, AtomicU64, Ordering};
 use std::sync::Mutex;
+use std::time::{Duration, Instant};
 
 use crate::generate::{generate, Draw, Input};
 use crate::outside;
@@ -12,8 +13,11 @@ use crate::script;
 use crate::share::{self, Tally};
 
 const WORKERS: usize = 2;
-/// Shrinking stops after so many tries.
+/// Shrinking stops after so many tries, and after so long where each try takes its time.
 const MOST_TRIES: usize = 4_000;
+const MOST_TIME: Duration = Duration::from_secs(300);
+/// A long run says that it still works after each of so many inputs.
+const SIGN_OF_LIFE: u64 = 100_000;
 
 /// The seed of the input with this number; neighbouring runs have no input in common.
 fn input_seed(seed: u64, number: u64) -> u64 {
@@ -35,6 +39,9 @@ pub fn with_program(program: &str, count: u64, seed: u64) -> Option<String> {
         if number >= count || stop.load(Ordering::Relaxed) {
             return;
         }
+        if number > 0 && number % SIGN_OF_LIFE == 0 {
+            eprintln!("{number} inputs begun, none differs so far (seed {seed})");
+        }
         let input = generate(input_seed(seed, number));
         if differs(program, &input.bytes()) {
             stop.store(true, Ordering::Relaxed);
@@ -48,10 +55,10 @@ pub fn with_program(program: &str, count: u64, seed: u64) -> Option<String> {
     });
     let (number, input) = found.into_inner().expect("no worker panics")?;
     let small = shrink(input, |input| differs(program, &input.bytes()));
-    Some(report(program, number, &small.bytes()))
+    Some(format!("input {number} of seed {seed} differs; {}", report(program, &small.bytes())))
 }
 
-fn report(program: &str, number: u64, input: &[u8]) -> String {
+fn report(program: &str, input: &[u8]) -> String {
     let theirs = match outside::run(program, input) {
         Ok(printed) => String::from_utf8_lossy(&printed).into_owned(),
         Err(reason) => format!("({reason})\n"),
@@ -60,22 +67,34 @@ fn report(program: &str, number: u64, input: &[u8]) -> String {
     let text = script::write(input);
     let (theirs, ours) = (theirs.trim_end(), ours.trim_end());
     format!(
-        "input {number} differs; shrunk to:\n{text}\n\
+        "shrunk to:\n{text}\
          --- the program prints:\n{theirs}\n--- the reference prints:\n{ours}"
     )
+}
+
+/// What shrinking may still spend.
+struct Budget {
+    tries: usize,
+    until: Instant,
+}
+
+impl Budget {
+    fn spent(&self) -> bool {
+        self.tries == 0 || Instant::now() >= self.until
+    }
 }
 
 /// The smallest list found on which the fault still shows: fields dropped first, bytes after.
 pub fn shrink(input: Input, faulty: impl Fn(&Input) -> bool) -> Input {
     let mut best = input;
-    let mut tries = 0;
+    let mut budget = Budget { tries: MOST_TRIES, until: Instant::now() + MOST_TIME };
     loop {
         let size = best.bytes().len();
-        drop_parts(&mut best, &faulty, &mut tries);
-        join_serial(&mut best, &faulty, &mut tries);
-        shorten_parts(&mut best, &faulty, &mut tries);
-        empty_slots(&mut best, &faulty, &mut tries);
-        if best.bytes().len() == size || tries >= MOST_TRIES {
+        drop_parts(&mut best, &faulty, &mut budget);
+        join_serial(&mut best, &faulty, &mut budget);
+        shorten_parts(&mut best, &faulty, &mut budget);
+        empty_slots(&mut best, &faulty, &mut budget);
+        if best.bytes().len() == size || budget.spent() {
             return best;
         }
     }
@@ -86,10 +105,13 @@ fn try_instead(
     best: &mut Input,
     smaller: Input,
     faulty: &impl Fn(&Input) -> bool,
-    tries: &mut usize,
+    budget: &mut Budget,
 ) -> bool {
-    *tries += 1;
-    let taken = *tries <= MOST_TRIES && faulty(&smaller);
+    if budget.spent() {
+        return false;
+    }
+    budget.tries -= 1;
+    let taken = faulty(&smaller);
     if taken {
         *best = smaller;
     }
@@ -97,14 +119,14 @@ fn try_instead(
 }
 
 /// Drops runs of fields, from half the list down to single ones.
-fn drop_parts(best: &mut Input, faulty: &impl Fn(&Input) -> bool, tries: &mut usize) {
+fn drop_parts(best: &mut Input, faulty: &impl Fn(&Input) -> bool, budget: &mut Budget) {
     let mut run = best.parts.len() / 2;
     while run > 0 {
         let mut at = 1;
         while at < best.parts.len() {
             let mut smaller = best.clone();
             smaller.parts.drain(at..(at + run).min(best.parts.len()));
-            if !try_instead(best, smaller, faulty, tries) {
+            if !try_instead(best, smaller, faulty, budget) {
                 at += run;
             }
         }
@@ -113,7 +135,7 @@ fn drop_parts(best: &mut Input, faulty: &impl Fn(&Input) -> bool, tries: &mut us
 }
 
 /// Serial fields next to each other become as few as their bytes allow.
-fn join_serial(best: &mut Input, faulty: &impl Fn(&Input) -> bool, tries: &mut usize) {
+fn join_serial(best: &mut Input, faulty: &impl Fn(&Input) -> bool, budget: &mut Budget) {
     let mut at = 1;
     while at + 1 < best.parts.len() {
         let (one, other) = (&best.parts[at], &best.parts[at + 1]);
@@ -126,7 +148,7 @@ fn join_serial(best: &mut Input, faulty: &impl Fn(&Input) -> bool, tries: &mut u
             joined[2] += other[2];
             let mut smaller = best.clone();
             smaller.parts.splice(at..at + 2, [joined]);
-            if try_instead(best, smaller, faulty, tries) {
+            if try_instead(best, smaller, faulty, budget) {
                 continue;
             }
         }
@@ -135,7 +157,7 @@ fn join_serial(best: &mut Input, faulty: &impl Fn(&Input) -> bool, tries: &mut u
 }
 
 /// Takes single bytes out of serial fields and off the end of anything else.
-fn shorten_parts(best: &mut Input, faulty: &impl Fn(&Input) -> bool, tries: &mut usize) {
+fn shorten_parts(best: &mut Input, faulty: &impl Fn(&Input) -> bool, budget: &mut Budget) {
     for part in 1..best.parts.len() {
         let mut at = best.parts[part].len();
         while at > 0 {
@@ -143,7 +165,7 @@ fn shorten_parts(best: &mut Input, faulty: &impl Fn(&Input) -> bool, tries: &mut
             if let Some(shorter) = without_byte(&best.parts[part], at) {
                 let mut smaller = best.clone();
                 smaller.parts[part] = shorter;
-                try_instead(best, smaller, faulty, tries);
+                try_instead(best, smaller, faulty, budget);
             }
         }
     }
@@ -167,12 +189,12 @@ fn without_byte(part: &[u8], at: usize) -> Option<Vec<u8>> {
 }
 
 /// Empties slots that the fault does not need.
-fn empty_slots(best: &mut Input, faulty: &impl Fn(&Input) -> bool, tries: &mut usize) {
+fn empty_slots(best: &mut Input, faulty: &impl Fn(&Input) -> bool, budget: &mut Budget) {
     for slot in 0..best.parts[0].len() {
         if best.parts[0][slot] != crate::rack::EMPTY {
             let mut smaller = best.clone();
             smaller.parts[0][slot] = crate::rack::EMPTY;
-            try_instead(best, smaller, faulty, tries);
+            try_instead(best, smaller, faulty, budget);
         }
     }
 }
