@@ -65,11 +65,20 @@ fn report(program: &str, input: &[u8]) -> String {
     };
     let ours = String::from_utf8_lossy(&program::run(input)).into_owned();
     let text = script::write(input);
-    let (theirs, ours) = (theirs.trim_end(), ours.trim_end());
+    let (theirs, ours) = (lines_of(&theirs), lines_of(&ours));
     format!(
         "shrunk to:\n{text}\
          --- the program prints:\n{theirs}\n--- the reference prints:\n{ours}"
     )
+}
+
+/// What was printed, without its last LF; where that is missing, a note says so.
+fn lines_of(printed: &str) -> String {
+    match printed.strip_suffix('\n') {
+        Some(lines) => lines.to_string(),
+        None if printed.is_empty() => "(nothing)".to_string(),
+        None => format!("{printed} (and no LF after it)"),
+    }
 }
 
 /// What shrinking may still spend.
