@@ -1,10 +1,16 @@
 //! One serial line: from the characters kept at its CR to what it says, whom it speaks to,
 //! what the supply makes of it and how the reply looks on the wire.
 
-use crate::supply::{Code, Mode, Order, Query, Supply};
+use std::io::Write;
+
+use crate::supply::{Answer, Code, Mode, Order, Query, Supply};
 
 /// A line holds this many characters; a further one spoils it.
 pub const LINE_ROOM: usize = 64;
+/// A number has this many characters at most.
+const MOST_CHARACTERS: usize = 12;
+const VOLT_DECIMALS: usize = 4;
+const AMPERE_DECIMALS: usize = 3;
 
 /// Whom a line speaks to.
 #[derive(Clone, Copy, Debug, PartialEq, Eq)]
@@ -36,7 +42,8 @@ pub fn checksum(bytes: &[u8]) -> u8 {
     bytes.iter().fold(0, |sum: u8, byte| sum.wrapping_add(*byte))
 }
 
-/// Clause "Verdicts in turn", up to but not including the table of orders.
+/// Clause "Verdicts in turn", up to but not including the table of orders. At most 64 characters
+/// are ever kept.
 pub fn read(kept: &[u8], spoiled: bool) -> Reading {
     if spoiled {
         return Reading { whom: Whom::Selected, summed: false, said: Err(Code::C01) };
@@ -79,17 +86,20 @@ fn understand(text: &[u8]) -> (Whom, Result<Said, Code>) {
         return (Whom::Selected, Ok(Said::Nothing));
     }
     let end = text.iter().position(|byte| *byte == b' ').unwrap_or(text.len());
-    let word = text[..end].to_ascii_uppercase();
+    let mut capitals = [0; LINE_ROOM];
+    let word = &mut capitals[..end];
+    word.copy_from_slice(&text[..end]);
+    word.make_ascii_uppercase();
     let parameter = text.get(end + 1..).filter(|rest| !rest.is_empty());
-    match word.as_slice() {
+    match &*word {
         b"ADR" => (Whom::Address, need(parameter).and_then(slot_number)),
         b"GPV" => (Whom::Everyone, order(b"PV", parameter)),
         b"GPC" => (Whom::Everyone, order(b"PC", parameter)),
         b"GOUT" => (Whom::Everyone, order(b"OUT", parameter)),
         b"GRST" => (Whom::Everyone, order(b"RST", parameter)),
-        _ => match query(&word) {
+        word => match query(word) {
             Some(query) => (Whom::Selected, bare(parameter, Said::Query(query))),
-            None => (Whom::Selected, order(&word, parameter)),
+            None => (Whom::Selected, order(word, parameter)),
         },
     }
 }
@@ -115,8 +125,6 @@ fn query(word: &[u8]) -> Option<Query> {
 }
 
 fn order(word: &[u8], parameter: Option<&[u8]>) -> Result<Said, Code> {
-    const VOLT_DECIMALS: usize = 4;
-    const AMPERE_DECIMALS: usize = 3;
     let order = match word {
         b"PV" => Order::Pv(number(need(parameter)?, VOLT_DECIMALS)?),
         b"PC" => Order::Pc(number(need(parameter)?, AMPERE_DECIMALS)?),
@@ -180,17 +188,18 @@ fn number(text: &[u8], decimals: usize) -> Result<i64, Code> {
     let point = text.iter().position(|byte| *byte == b'.').unwrap_or(text.len());
     let whole = &text[..point];
     let fraction = text.get(point + 1..).unwrap_or(&[]);
-    let digits = [whole, fraction].concat();
-    let well_formed = (1..=12).contains(&text.len())
-        && !digits.is_empty()
-        && digits.iter().all(u8::is_ascii_digit);
+    let well_formed = (1..=MOST_CHARACTERS).contains(&text.len())
+        && whole.len() + fraction.len() > 0
+        && whole.iter().chain(fraction).all(u8::is_ascii_digit);
     if !well_formed {
         return Err(Code::C03);
     }
     // Pad to the wanted decimals, and cut what lies below a tick or mA.
-    let mut places = fraction.to_vec();
-    places.resize(decimals, b'0');
-    Ok(run_value(&[whole, &places].concat()))
+    let mut run = [b'0'; MOST_CHARACTERS + VOLT_DECIMALS];
+    let places = fraction.len().min(decimals);
+    run[..whole.len()].copy_from_slice(whole);
+    run[whole.len()..whole.len() + places].copy_from_slice(&fraction[..places]);
+    Ok(run_value(&run[..whole.len() + decimals]))
 }
 
 /// A run's value is that of the run without its last digit, times ten, plus the last.
@@ -201,23 +210,31 @@ fn run_value(digits: &[u8]) -> i64 {
     }
 }
 
-/// What the plain supply makes of a line that reached it, as the words of the reply.
-pub fn obey(supply: &mut Supply, said: Result<Said, Code>) -> String {
+/// What the plain supply makes of a line that reached it.
+pub fn obey(supply: &mut Supply, said: Result<Said, Code>) -> Answer {
+    const OK: Answer = Answer::Word("OK");
     let done = said.and_then(|said| match said {
-        Said::Order(order) => supply.order(order).map(|()| "OK".to_string()),
+        Said::Order(order) => supply.order(order).map(|()| OK),
         Said::Query(query) => Ok(supply.ask(query)),
-        Said::Nothing | Said::Select(_) => Ok("OK".to_string()),
+        Said::Nothing | Said::Select(_) => Ok(OK),
     });
-    done.unwrap_or_else(|code| code.text().to_string())
+    done.unwrap_or_else(|code| Answer::Word(code.text()))
 }
 
-/// Clause "A reply": the words, a checksum if the line had a right one, and a CR.
-pub fn reply(words: &str, summed: bool) -> Vec<u8> {
-    let mut bytes = words.as_bytes().to_vec();
-    if summed {
-        let sum = checksum(&bytes);
-        bytes.extend(format!("${sum:02X}").bytes());
-    }
-    bytes.push(b'\r');
+/// Clause "A reply": the answer, a checksum if the line had a right one, and a CR.
+pub fn reply(answer: Answer, summed: bool) -> Vec<u8> {
+    let mut bytes = Vec::new();
+    add_reply(&mut bytes, answer, summed);
     bytes
+}
+
+/// Puts such a reply after those that are there.
+pub fn add_reply(replies: &mut Vec<u8>, answer: Answer, summed: bool) {
+    let start = replies.len();
+    write!(replies, "{answer}").expect("a vector takes any bytes");
+    if summed {
+        let sum = checksum(&replies[start..]);
+        write!(replies, "${sum:02X}").expect("a vector takes any bytes");
+    }
+    replies.push(b'\r');
 }

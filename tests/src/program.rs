@@ -13,8 +13,9 @@ pub fn run(input: &[u8]) -> Vec<u8> {
     };
     while !rest.is_empty() {
         match rack.call(rest, LEAST_ROOM) {
-            Ok((used, replies)) => {
-                printed.extend(with_line_feeds(&replies));
+            Ok((used, mut replies)) => {
+                turn_to_line_feeds(&mut replies);
+                printed.extend(replies);
                 rest = &rest[used..];
             }
             Err(number) => return refused(printed, number),
@@ -24,8 +25,8 @@ pub fn run(input: &[u8]) -> Vec<u8> {
 }
 
 /// A reply goes to the wire with CR and to the screen with LF.
-pub fn with_line_feeds(replies: &[u8]) -> Vec<u8> {
-    replies.iter().map(|byte| if *byte == b'\r' { b'\n' } else { *byte }).collect()
+fn turn_to_line_feeds(replies: &mut [u8]) {
+    replies.iter_mut().filter(|byte| **byte == b'\r').for_each(|byte| *byte = b'\n');
 }
 
 fn refused(mut printed: Vec<u8>, number: u8) -> Vec<u8> {
@@ -56,17 +57,18 @@ impl Running {
             return;
         }
         self.waiting.extend(piece);
-        let last = piece.is_empty();
+        let (last, start) = (piece.is_empty(), printed.len());
         match self.work(last, printed) {
             Ok(used) => {
                 self.waiting.drain(..used);
+                self.over = last;
             }
             Err(number) => {
                 *printed = refused(std::mem::take(printed), number);
                 self.over = true;
             }
         }
-        self.over |= last;
+        turn_to_line_feeds(&mut printed[start..]);
     }
 
     /// Works all that is there in whole; answers how many bytes that was.
@@ -81,11 +83,8 @@ impl Running {
         }
         let Some(rack) = &mut self.rack else { return Ok(used) };
         while used < self.waiting.len() {
-            match rack.call(&self.waiting[used..], LEAST_ROOM) {
-                Ok((taken, replies)) => {
-                    printed.extend(with_line_feeds(&replies));
-                    used += taken;
-                }
+            match rack.call_with(&self.waiting[used..], LEAST_ROOM, printed) {
+                Ok(taken) => used += taken,
                 // More bytes may still make a field of these.
                 Err(NO_HEADER | CUT_SHORT) if !last => break,
                 Err(number) => return Err(number),

@@ -46,6 +46,18 @@ impl Rack {
 
     /// Takes the first field; answers the bytes used and the replies, or the refusal's number.
     pub fn call(&mut self, bytes: &[u8], room: usize) -> Result<(usize, Vec<u8>), u8> {
+        let mut replies = Vec::new();
+        let used = self.call_with(bytes, room, &mut replies)?;
+        Ok((used, replies))
+    }
+
+    /// The same with the replies put after those that are there.
+    pub fn call_with(
+        &mut self,
+        bytes: &[u8],
+        room: usize,
+        replies: &mut Vec<u8>,
+    ) -> Result<usize, u8> {
         if room < LEAST_ROOM {
             return Err(SMALL_BUFFER);
         }
@@ -60,28 +72,29 @@ impl Rack {
             return Err(BAD_LENGTH);
         }
         let payload = rest.get(..length).ok_or(CUT_SHORT)?;
-        let replies = match tag {
-            1 => payload.iter().flat_map(|byte| self.hear(*byte)).collect(),
+        match tag {
+            1 => payload.iter().for_each(|byte| self.hear(*byte, replies)),
             _ => self.bring_event(*tag, payload)?,
-        };
-        Ok((3 + length, replies))
+        }
+        Ok(3 + length)
     }
 
     /// Tags 2 to 5: the address is judged before what follows it.
-    fn bring_event(&mut self, tag: u8, payload: &[u8]) -> Result<Vec<u8>, u8> {
+    fn bring_event(&mut self, tag: u8, payload: &[u8]) -> Result<(), u8> {
         let slot = self.slots.get_mut(usize::from(payload[0]));
         let supply = slot.and_then(Option::as_mut).ok_or(NO_SUPPLY)?;
         supply.event(event_of(tag, &payload[1..]).ok_or(BAD_VALUE)?);
-        Ok(Vec::new())
+        Ok(())
     }
 
     /// Clause "The shared line": one byte of the stream; a reply can come only at a CR.
-    fn hear(&mut self, byte: u8) -> Vec<u8> {
+    fn hear(&mut self, byte: u8, replies: &mut Vec<u8>) {
         match byte {
             b'\r' => {
-                let kept = std::mem::take(&mut self.kept);
-                let spoiled = std::mem::take(&mut self.spoiled);
-                return self.end_line(line::read(&kept, spoiled));
+                let reading = line::read(&self.kept, self.spoiled);
+                self.kept.clear();
+                self.spoiled = false;
+                self.end_line(reading, replies);
             }
             b'\n' => {}
             0x08 => {
@@ -90,42 +103,37 @@ impl Rack {
             _ if self.kept.len() < LINE_ROOM => self.kept.push(byte),
             _ => self.spoiled = true,
         }
-        Vec::new()
     }
 
-    fn end_line(&mut self, reading: Reading) -> Vec<u8> {
+    fn end_line(&mut self, reading: Reading, replies: &mut Vec<u8>) {
         match reading.whom {
-            Whom::Address => self.address(reading),
+            Whom::Address => self.address(reading, replies),
             Whom::Everyone => self.tell_everyone(reading),
-            Whom::Selected => self.tell_selected(reading),
+            Whom::Selected => self.tell_selected(reading, replies),
         }
     }
 
     /// Clause "ADR n": an error is answered by the slot selected so far, which stays selected.
-    fn address(&mut self, reading: Reading) -> Vec<u8> {
+    fn address(&mut self, reading: Reading, replies: &mut Vec<u8>) {
         if let Ok(Said::Select(slot)) = reading.said {
             self.selected = self.slots[slot].is_some().then_some(slot);
         }
-        self.tell_selected(reading)
+        self.tell_selected(reading, replies);
     }
 
     /// Clause "GPV, GPC, GOUT, GRST": each supply judges for itself and nobody replies.
-    fn tell_everyone(&mut self, reading: Reading) -> Vec<u8> {
+    fn tell_everyone(&mut self, reading: Reading) {
         if reading.said.is_ok() {
             for supply in self.slots.iter_mut().flatten() {
                 line::obey(supply, reading.said);
             }
         }
-        Vec::new()
     }
 
-    fn tell_selected(&mut self, reading: Reading) -> Vec<u8> {
-        let Some(slot) = self.selected else {
-            return Vec::new();
-        };
-        match &mut self.slots[slot] {
-            Some(supply) => line::reply(&line::obey(supply, reading.said), reading.summed),
-            None => Vec::new(),
+    fn tell_selected(&mut self, reading: Reading, replies: &mut Vec<u8>) {
+        let Some(slot) = self.selected else { return };
+        if let Some(supply) = &mut self.slots[slot] {
+            line::add_reply(replies, line::obey(supply, reading.said), reading.summed);
         }
     }
 }

@@ -1,6 +1,8 @@
 //! The plain supply: one power supply by itself, without rack, slot or serial line.
 //! Volts are whole ticks of 0.1 mV and amperes whole mA, so every figure here is exact.
 
+use std::fmt;
+
 /// One row of the table of models, in ticks and mA.
 #[derive(Debug, PartialEq, Eq)]
 pub struct Model {
@@ -160,6 +162,27 @@ impl Code {
             Code::E04 => "E04",
             Code::E06 => "E06",
             Code::E07 => "E07",
+        }
+    }
+}
+
+/// What a supply says; printed, it is the reply before any checksum and CR.
+#[derive(Clone, Copy, Debug, PartialEq, Eq)]
+pub enum Answer {
+    Word(&'static str),
+    Volts(i64),
+    Amperes(i64),
+    Byte(u8),
+}
+
+impl fmt::Display for Answer {
+    /// Volts have four decimals, amperes three, and neither a needless leading zero.
+    fn fmt(&self, out: &mut fmt::Formatter) -> fmt::Result {
+        match *self {
+            Answer::Word(word) => out.write_str(word),
+            Answer::Volts(ticks) => write!(out, "{}.{:04}", ticks / 10_000, ticks % 10_000),
+            Answer::Amperes(ma) => write!(out, "{}.{:03}", ma / 1_000, ma % 1_000),
+            Answer::Byte(byte) => write!(out, "{byte:02X}"),
         }
     }
 }
@@ -448,23 +471,23 @@ impl Supply {
         };
     }
 
-    /// Clause "Queries": the answer as it stands in the reply, before any checksum.
-    pub fn ask(&mut self, query: Query) -> String {
+    /// Clause "Queries".
+    pub fn ask(&mut self, query: Query) -> Answer {
         match query {
-            Query::Pv => volts_text(self.pv),
-            Query::Pc => amperes_text(self.pc),
-            Query::Ovp => volts_text(self.ovp),
-            Query::Uvl => volts_text(self.uvl),
-            Query::Mv => volts_text(self.volt_reading()),
-            Query::Mc => amperes_text(self.ampere_reading()),
+            Query::Pv => Answer::Volts(self.pv),
+            Query::Pc => Answer::Amperes(self.pc),
+            Query::Ovp => Answer::Volts(self.ovp),
+            Query::Uvl => Answer::Volts(self.uvl),
+            Query::Mv => Answer::Volts(self.volt_reading()),
+            Query::Mc => Answer::Amperes(self.ampere_reading()),
             Query::Out => on_off(self.output_on()),
             Query::Fld => on_off(self.armed),
             Query::Ast => on_off(self.ast),
-            Query::Rmt => self.mode_text().to_string(),
-            Query::Mode => self.regulation().to_string(),
-            Query::Flt => format!("{:02X}", self.flt()),
-            Query::Fena => format!("{:02X}", self.fena),
-            Query::Feve => format!("{:02X}", std::mem::take(&mut self.feve)),
+            Query::Rmt => Answer::Word(self.mode_text()),
+            Query::Mode => Answer::Word(self.regulation()),
+            Query::Flt => Answer::Byte(self.flt()),
+            Query::Fena => Answer::Byte(self.fena),
+            Query::Feve => Answer::Byte(std::mem::take(&mut self.feve)),
         }
     }
 
@@ -522,16 +545,16 @@ fn divide_up(value: i64, by: i64) -> i64 {
     (value + by - 1) / by
 }
 
-fn on_off(on: bool) -> String {
-    if on { "ON" } else { "OFF" }.to_string()
+fn on_off(on: bool) -> Answer {
+    Answer::Word(if on { "ON" } else { "OFF" })
 }
 
-/// Four decimals and no needless leading zero.
+/// Volts as a reply has them.
 pub fn volts_text(ticks: i64) -> String {
-    format!("{}.{:04}", ticks / 10_000, ticks % 10_000)
+    Answer::Volts(ticks).to_string()
 }
 
-/// Three decimals and no needless leading zero.
+/// Amperes as a reply has them.
 pub fn amperes_text(milliamperes: i64) -> String {
-    format!("{}.{:03}", milliamperes / 1_000, milliamperes % 1_000)
+    Answer::Amperes(milliamperes).to_string()
 }

@@ -64,7 +64,7 @@ impl Trial {
             Act::Nothing => {}
             Act::Event(event) => after.event(event),
             Act::Order(order) => code = after.order(order).err(),
-            Act::Query(query) => answer = Some(after.ask(query)),
+            Act::Query(query) => answer = Some(after.ask(query).to_string()),
         }
         Expected { code, answer, after }
     }

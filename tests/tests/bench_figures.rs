@@ -6,8 +6,8 @@ use rack_tests::supply::{Event, Key, Supply, Target};
 /// What the supply answers to a line, without the CR.
 fn say(supply: &mut Supply, text: &str) -> String {
     let reading = line::read(text.as_bytes(), false);
-    let words = line::obey(supply, reading.said);
-    let reply = line::reply(&words, reading.summed);
+    let answer = line::obey(supply, reading.said);
+    let reply = line::reply(answer, reading.summed);
     String::from_utf8_lossy(&reply).trim_end_matches('\r').to_string()
 }
 

@@ -597,7 +597,7 @@ fn reply_to(supply: &mut Supply, kept: &[u8], spoiled: bool) -> Vec<u8> {
             Vec::new()
         }
         Whom::Address | Whom::Selected => {
-            line::reply(&line::obey(supply, reading.said), reading.summed)
+            line::reply(line::obey(supply, reading.said), reading.summed)
         }
     }
 }
