@@ -1,0 +1,74 @@
+//! How long two programs compute on the same file: `usertime RUNS INPUT PROGRAM OTHER` runs them in
+//! turn, so many times each and with their output thrown away. It prints the median of either's user
+//! times in microseconds and the median of the ratios, one program's run by the other's next to it.
+
+use std::fs::File;
+use std::process::{Command, ExitCode, Stdio};
+
+/// The kernel's account of the children that have ended, as Linux on x86-64 lays it out: seconds
+/// and microseconds of user time, the same of system time, and 14 numbers not used here.
+mod account {
+    const ENDED_CHILDREN: i32 = -1;
+
+    extern "C" {
+        fn getrusage(whose: i32, account: *mut [i64; 18]) -> i32;
+    }
+
+    pub fn user_microseconds() -> i64 {
+        let mut account = [0; 18];
+        // SAFETY: the array has the size of the structure that the kernel fills.
+        let status = unsafe { getrusage(ENDED_CHILDREN, &mut account) };
+        assert_eq!(status, 0, "the kernel keeps this account for every process");
+        account[0] * 1_000_000 + account[1]
+    }
+}
+
+fn main() -> ExitCode {
+    let arguments: Vec<String> = std::env::args().skip(1).collect();
+    let [runs, input, program, other] = &arguments[..] else {
+        return usage();
+    };
+    let Ok(runs @ 1..) = runs.parse() else {
+        return usage();
+    };
+    match in_turn(runs, input, program, other) {
+        Ok(pairs) => {
+            let ones = median(pairs.iter().map(|(one, _)| *one));
+            let others = median(pairs.iter().map(|(_, other)| *other));
+            let ratio = median(pairs.iter().map(|(one, other)| one / other));
+            println!("{ones:.0} {others:.0} {ratio:.2}");
+            ExitCode::SUCCESS
+        }
+        Err(what) => {
+            eprintln!("{what}");
+            ExitCode::FAILURE
+        }
+    }
+}
+
+fn usage() -> ExitCode {
+    eprintln!("usage: usertime RUNS INPUT PROGRAM OTHER");
+    ExitCode::from(2)
+}
+
+/// Run by run, so that a busy minute of the machine meets both.
+fn in_turn(runs: u32, input: &str, one: &str, other: &str) -> Result<Vec<(f64, f64)>, String> {
+    (0..runs).map(|_| Ok((one_run(one, input)?, one_run(other, input)?))).collect()
+}
+
+fn median(values: impl Iterator<Item = f64>) -> f64 {
+    let mut values: Vec<f64> = values.collect();
+    values.sort_by(f64::total_cmp);
+    values[values.len() / 2]
+}
+
+fn one_run(program: &str, input: &str) -> Result<f64, String> {
+    let file = File::open(input).map_err(|error| format!("{input}: {error}"))?;
+    let before = account::user_microseconds();
+    let status = Command::new(program).stdin(file).stdout(Stdio::null()).status();
+    let status = status.map_err(|error| format!("{program}: {error}"))?;
+    match status.success() {
+        true => Ok((account::user_microseconds() - before) as f64),
+        false => Err(format!("{program} ended with {status}")),
+    }
+}
