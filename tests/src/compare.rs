@@ -39,7 +39,7 @@ pub fn with_program(program: &str, count: u64, seed: u64) -> Option<String> {
         if number >= count || stop.load(Ordering::Relaxed) {
             return;
         }
-        if number > 0 && number % SIGN_OF_LIFE == 0 {
+        if number > 0 && number.is_multiple_of(SIGN_OF_LIFE) {
             eprintln!("{number} inputs begun, none differs so far (seed {seed})");
         }
         let input = generate(input_seed(seed, number));
