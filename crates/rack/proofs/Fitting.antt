@@ -19,7 +19,7 @@ use Rattle.serial.specs.declared.Line.{Line}
 use Rattle.serial.specs.View.{wireOf}
 use Rattle.slots.specs.declared.Rack.{Rack}
 use Rattle.rack.specs.Fit.{allowed, allAllowed, goodList, Made, FitDoes}
-use Rattle.slots.proofs.Steps.{rackIs}
+use Rattle.slots.specs.View.{rackIs}
 
 abbrev also : Bool → ℕ → Bool
 also t m = t && allowed m

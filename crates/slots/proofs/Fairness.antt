@@ -26,7 +26,7 @@ use Rattle.plain.specs.Plain.{plainSupply, grammar, replyTo, classOf}
 use Rattle.plain.specs.Classes.{Classes}
 use Rattle.plain.proofs.Classes.{classes}
 use Rattle.slots.specs.declared.Rack.{Rack}
-use Rattle.slots.specs.View.{Fair, ended}
+use Rattle.slots.specs.View.{Fair, endedBy}
 
 -- a supply within its widths
 pub sized : (s : Supply) → s .pv < 2 ^ 32 → s .pc < 2 ^ 32 → s .ovp < 2 ^ 32 → s .uvl < 2 ^ 32 → s .«volt_count» < 2 ^ 16 → s .«amp_count» < 2 ^ 16 → Sized s
@@ -76,7 +76,7 @@ module _ (r : Rack) (s : Supply) (z : Sized s) (here : s ≡ getD (r .slots) (r 
   class-wire other = (refl, refl)
 
   -- a line's end
-  pub ended-fair : Fair r (ended r) 1
+  pub ended-fair : Fair r (endedBy r) 1
   ended-fair =
       let k = class-wire (classOf (w .kept) (w .spoiled)) in
       record { fair = rw (k .0, k .1) (omega (arith, by-class (classOf (w .kept) (w .spoiled)) refl)) }
@@ -95,6 +95,6 @@ char-fair r x n = rw (char-on grammar (r .setup) (wireOf (r .line)) x (ne-eqb x 
     on-char w false false true = omega (arith, length-append (w .kept) (x ∷ []))
     on-char w false false false = omega arith
 
-pub cr-fair : (r : Rack) (x : ℕ) → x ≡ 13 → Fair r (ended r) 1 → Fair r (byteOn grammar (r .setup) (wireOf (r .line)) x) 1
+pub cr-fair : (r : Rack) (x : ℕ) → x ≡ 13 → Fair r (endedBy r) 1 → Fair r (byteOn grammar (r .setup) (wireOf (r .line)) x) 1
 unfolding byteOn
 cr-fair r x e f = rw e f

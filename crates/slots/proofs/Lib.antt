@@ -1,3 +1,4 @@
 pub mod Steps
+pub mod LineEnds
 pub mod Fairness
 pub mod Runs

@@ -31,15 +31,12 @@ use Rattle.serial.proofs.Chars.{char-on}
 use borrow.Author.Tests.{ne-eqb}
 use Rattle.plain.specs.Plain.{plainSupply, grammar, stepOf, replyTo, classBy, classOf}
 use Rattle.slots.specs.declared.Rack.{Rack}
-use Rattle.slots.specs.View.{viewOf, Moves}
+use Rattle.slots.specs.View.{viewOf, rackIs, Moves}
 
 -- the line after its CR, with a slot selected
 pub record Cleared (l : Line) (sel : ℕ) : Type 0 where
   pub small : l .count ≤ 64
   pub is : wireOf l ≡ record { kept = []; spoiled = false; sel = sel }
-
-abbrev pub rackIs : List Supply → Line → Setup → Rack
-rackIs ss l u = record { slots = ss; line = l; setup = u }
 
 module _ (r : Rack) (b : List ℕ) (at : ℕ) where
   abbrev u : Setup

@@ -1,15 +1,17 @@
 // The slots of a rack behind its serial line: a line obeyed at its CR, the serial bytes of a field, an event at one address.
 ghost use mathlib.Core.Path.{_≡_};
+ghost use mathlib.Core.Bool.{false};
 ghost use Prim.Native.Nat.{_≤_};
 ghost use lib.ListN.{length, getD, set};
-ghost use Rattle.wire.specs.Wire.{byClass, select, faulty, byteOn, modelAt};
+ghost use Rattle.wire.specs.Wire.{select, faulty, byteOn, modelAt};
 ghost use Rattle.supply.specs.State.{fresh};
+ghost use Rattle.supply.specs.declared.Order.the-variants.{Cls};
 ghost use Rattle.acts.specs.Acts.{performed};
 ghost use Rattle.reply.specs.Texts.{codeText, replyOf};
 ghost use Rattle.protocol.specs.SentBack.{Sized};
 ghost use Rattle.serial.specs.View.{wireOf};
 ghost use Rattle.plain.specs.Plain.{grammar};
-ghost use Rattle.slots.specs.View.{Moves, Fair, Told, Asked, ended, scanned};
+ghost use Rattle.slots.specs.View.{rackIs, Moves, Fair, Told, Ends, Asked, EndsLine, endedBy, scanned};
 use command::Asks;
 use serial::Line;
 use supply::Act;
@@ -28,6 +30,15 @@ pub struct Rack {
 pub struct Turned {
     pub rack: Rack,
     pub next: usize,
+}
+
+// What a line leaves at its CR: the line, the supply of the slot selected and the index after the reply; or an order that is for all.
+pub struct Ended {
+    pub line: Line,
+    pub supply: Supply,
+    pub next: usize,
+    pub all: bool,
+    pub order: Order,
 }
 
 // A supply of the code has its figures within their widths; this says so of one.
@@ -69,35 +80,102 @@ fn with_line(r: Rack, l: Line) -> Rack
     q
 }
 
-// ADR of an address: the slot selected says OK, an empty one selects nobody.
-fn select_slot(r: Rack, a: u8, summed: bool, buf: &mut [u8], at: usize) -> Turned
-    ensures { λ q. ⌜ Moves r (byClass (r .setup) (wireOf (r .line)) (select a (replyOf summed (codeText 0)))) (q .rack) (now (buf .entry)) at (q .next) (now (buf .exit)) ⌝ }
+// A line for at most one supply, ended.
+fn one_ended(line: Line, supply: Supply, next: usize) -> Ended
+    ensures { λ e. ⌜ e ≡ record { line = line; supply = supply; next = next; all = false; order = Cls } ⌝ }
 {
-    let setup = r.setup;
-    let line = r.line;
-    if serial::has_supply(setup, a) {
+    let order = Order::Cls;
+    Ended {
+        line,
+        supply,
+        next,
+        all: false,
+        order,
+    }
+}
+
+// ADR of an address: the slot selected says OK, an empty one selects nobody.
+fn select_slot(
+    u: Setup,
+    l: Line,
+    s: Supply,
+    a: u8,
+    summed: bool,
+    buf: &mut [u8],
+    at: usize,
+) -> Ended
+    ensures { λ e. ⌜ (e .all ≡ false) × Ends u l s (select a (replyOf summed (codeText 0))) e (now (buf .entry)) at (now (buf .exit)) ⌝ }
+{
+    if serial::has_supply(u, a) {
         let next = reply::put_code_reply(buf, at, 0, summed);
-        let rack = with_line(r, serial::cleared(line, a));
-        Turned { rack, next }
+        one_ended(serial::cleared(l, a), s, next)
     } else {
-        let rack = with_line(r, serial::cleared(line, 31));
-        Turned { rack, next: at }
+        one_ended(serial::cleared(l, 31), s, at)
     }
 }
 
 // A code said by the slot selected, if there is one; nothing moves.
-fn say_code(r: Rack, code: u8, summed: bool, buf: &mut [u8], at: usize) -> Turned
-    ensures { λ q. ⌜ Moves r (byClass (r .setup) (wireOf (r .line)) (faulty (replyOf summed (codeText code)))) (q .rack) (now (buf .entry)) at (q .next) (now (buf .exit)) ⌝ }
+fn say_code(
+    u: Setup,
+    l: Line,
+    s: Supply,
+    code: u8,
+    summed: bool,
+    buf: &mut [u8],
+    at: usize,
+) -> Ended
+    ensures { λ e. ⌜ (e .all ≡ false) × Ends u l s (faulty (replyOf summed (codeText code))) e (now (buf .entry)) at (now (buf .exit)) ⌝ }
 {
-    let setup = r.setup;
-    let line = r.line;
-    let selected = line.selected;
-    let rack = with_line(r, serial::cleared(line, selected));
-    if serial::has_supply(setup, selected) {
+    let selected = l.selected;
+    let line = serial::cleared(l, selected);
+    if serial::has_supply(u, selected) {
         let next = reply::put_code_reply(buf, at, code, summed);
-        Turned { rack, next }
+        one_ended(line, s, next)
     } else {
-        Turned { rack, next: at }
+        one_ended(line, s, at)
+    }
+}
+
+// A line to the slot selected, if there is one: its supply obeys and replies.
+fn tell_one(u: Setup, l: Line, s: Supply, a: Act, summed: bool, buf: &mut [u8], at: usize) -> Ended
+    ensures { λ e. ⌜ (e .all ≡ false) × Asked u l s a summed e (now (buf .entry)) at (now (buf .exit)) ⌝ }
+{
+    let selected = l.selected;
+    let line = serial::cleared(l, selected);
+    if serial::has_supply(u, selected) {
+        let model = serial::model_at(u, selected);
+        let done = reply::obey(model, s, a, summed, buf, at);
+        let supply = done.supply;
+        let next = done.next;
+        one_ended(line, supply, next)
+    } else {
+        one_ended(line, s, at)
+    }
+}
+
+// A line at its CR, given the supply of the slot selected: what comes of it, or the order that it has for all.
+pub fn end_one(u: Setup, l: Line, s: Supply, buf: &mut [u8], at: usize) -> Ended
+    ensures { λ e. ⌜ EndsLine u l s e (now (buf .entry)) at (now (buf .exit)) ⌝ }
+{
+    let heard = serial::hear(l);
+    let asks = heard.asks;
+    let summed = heard.summed;
+    match asks {
+        Asks::Select(a) => select_slot(u, l, s, a, summed, buf, at),
+        Asks::BadSelect(c) => say_code(u, l, s, c, summed, buf, at),
+        Asks::Everyone(order) => Ended {
+            line: l,
+            supply: s,
+            next: at,
+            all: true,
+            order,
+        },
+        Asks::Nobody => {
+            let selected = l.selected;
+            one_ended(serial::cleared(l, selected), s, at)
+        }
+        Asks::One(a) => tell_one(u, l, s, a, summed, buf, at),
+        Asks::Error(c) => say_code(u, l, s, c, summed, buf, at),
     }
 }
 
@@ -118,58 +196,42 @@ fn tell_all(r: Rack, o: Order) -> Rack
     }
 }
 
-// A line to the slot selected, if there is one: its supply obeys and replies.
-fn tell_one(r: Rack, s: Supply, a: Act, summed: bool, buf: &mut [u8], at: usize) -> Turned
-    ensures { λ q. ⌜ (s ≡ getD (r .slots) (r .line .selected) (fresh 255) → Asked r a summed (q .rack) (now (buf .entry)) at (q .next) (now (buf .exit))) ⌝ }
+// The rack with what a line left of its line and of the slot selected.
+fn put_back(r: Rack, e: Ended) -> Turned
+    ensures { λ q. ⌜ q ≡ record { rack = rackIs (set (r .slots) (r .line .selected) (e .supply)) (e .line) (r .setup); next = e .next } ⌝ }
 {
-    let setup = r.setup;
-    let line = r.line;
     let slots = r.slots;
-    let selected = line.selected;
-    let ended = serial::cleared(line, selected);
-    if serial::has_supply(setup, selected) {
-        let model = serial::model_at(setup, selected);
-        let done = reply::obey(model, s, a, summed, buf, at);
-        let supply = done.supply;
-        let next = done.next;
-        let after = set_slot(slots, selected, supply);
-        let rack = Rack {
-            slots: after,
-            line: ended,
-            setup,
-        };
-        Turned { rack, next }
-    } else {
-        let rack = with_line(r, ended);
-        Turned { rack, next: at }
-    }
+    let setup = r.setup;
+    let before = r.line;
+    let line = e.line;
+    let supply = e.supply;
+    let next = e.next;
+    let after = set_slot(slots, before.selected, supply);
+    let rack = Rack {
+        slots: after,
+        line,
+        setup,
+    };
+    Turned { rack, next }
 }
 
 // A line at its CR.
 fn end_line(r: Rack, buf: &mut [u8], at: usize) -> Turned
-    ensures moves { λ q. ⌜ Moves r (ended r) (q .rack) (now (buf .entry)) at (q .next) (now (buf .exit)) ⌝ }
-    ensures fair { λ q. ⌜ Fair r (ended r) 1 ⌝ }
+    ensures moves { λ q. ⌜ Moves r (endedBy r) (q .rack) (now (buf .entry)) at (q .next) (now (buf .exit)) ⌝ }
+    ensures fair { λ q. ⌜ Fair r (endedBy r) 1 ⌝ }
 {
+    let setup = r.setup;
     let line = r.line;
     let slots = r.slots;
     let s = measured(slot_at(slots, line.selected));
-    let heard = serial::hear(line);
-    let asks = heard.asks;
-    let summed = heard.summed;
-    match asks {
-        Asks::Select(a) => select_slot(r, a, summed, buf, at),
-        Asks::BadSelect(c) => say_code(r, c, summed, buf, at),
-        Asks::Everyone(o) => {
-            let rack = tell_all(r, o);
-            Turned { rack, next: at }
-        }
-        Asks::Nobody => {
-            let selected = line.selected;
-            let rack = with_line(r, serial::cleared(line, selected));
-            Turned { rack, next: at }
-        }
-        Asks::One(a) => tell_one(r, s, a, summed, buf, at),
-        Asks::Error(c) => say_code(r, c, summed, buf, at),
+    let e = end_one(setup, line, s, buf, at);
+    let all = e.all;
+    let order = e.order;
+    if all {
+        let rack = tell_all(r, order);
+        Turned { rack, next: at }
+    } else {
+        put_back(r, e)
     }
 }
 
