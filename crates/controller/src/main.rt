@@ -1,10 +1,10 @@
 // The program: a fitting list and then fields from standard input, each reply to standard output with LF for
 // its CR. A field is answered as soon as its last byte is there. A refusal is printed and ends the program.
 ghost use mathlib.Core.Path.{_≡_};
-ghost use mathlib.Core.List.{map};
-ghost use Prim.Native.Nat.{_≤_};
-ghost use lib.ListN.{drop};
-ghost use Rattle.base.specs.Put.{Put};
+ghost use mathlib.Core.Bool.{true};
+ghost use Prim.Native.Nat.{_≤_, _<_};
+ghost use lib.ListN.{length};
+ghost use Rattle.base.specs.Lists.{eachTo};
 ghost use Rattle.controller.specs.Printed.{printed};
 use libc::STDIN_FILENO;
 use libc::STDOUT_FILENO;
@@ -19,25 +19,20 @@ const FULL: usize = 61_440;
 // More reads than any run makes.
 const READS: u64 = u64::MAX;
 
-// Fields worked one after the other: the rack after them, the bytes that they had, and why the next one was not taken.
+// Fields worked one after the other: the rack after them, the bytes that they had, the index after the replies that wait, the
+// code of the last call, and whether there may be more fields.
 struct Worked {
     rack: Rack,
     used: usize,
+    next: usize,
     code: u8,
+    more: bool,
 }
 
 fn least(a: usize, b: usize) -> usize
-    ensures { λ r. ⌜ r ≤ b ⌝ }
+    ensures { λ r. ⌜ (r ≤ b) × (a ≤ b → r ≡ a) ⌝ }
 {
     if a < b { a } else { b }
-}
-
-// The bytes from an index on; none past the end.
-fn part_from(s: &[u8], i: usize) -> &[u8]
-    ensures { λ r. ⌜ now r ≡ drop i (now (s .entry)) ⌝ }
-{
-    let n = s.len();
-    if i < n { &s[i..] } else { &s[n..] }
 }
 
 // The bytes before an index; all where it is past the end.
@@ -63,49 +58,73 @@ fn printed_byte(b: u8) -> u8
     if b == 13 { 10 } else { b }
 }
 
-// Adds a reply to those that wait, with LF for its CR.
-fn put_reply(out: &mut [u8], at: usize, reply: &[u8]) -> usize
-    ensures { λ r. ⌜ Put (now (out .entry)) at (map printed (now (reply .entry))) r (now (out .exit)) ⌝ }
+// The first n bytes with LF for each CR.
+fn end_lines(out: &mut [u8], n: usize)
+    ensures { λ _. ⌜ (n ≤ length (now (out .entry)) → now (out .exit) ≡ eachTo (λ i b. printed b) n (now (out .entry))) ⌝ }
 {
-    let mut next = at;
+    let end = least(n, out.len());
     let mut i = 0;
-    while i < reply.len() {
-        next = base::put_byte(out, next, printed_byte(reply[i]));
+    while i < end {
+        out[i] = printed_byte(out[i]);
         i += 1;
     }
-    next
 }
 
 // Writes the replies that wait, and tells the index for the next one.
-fn write_out(out: &[u8], n: usize) -> usize {
+fn write_out(out: &mut [u8], n: usize) -> usize {
+    end_lines(out, n);
     io::write_all(STDOUT_FILENO, part_to(out, n));
     0
 }
 
 // The index for the next reply, once those that fill the buffer are written.
-fn next_index(out: &[u8], n: usize) -> usize {
+fn next_index(out: &mut [u8], n: usize) -> usize {
     if n < FULL { n } else { write_out(out, n) }
+}
+
+// Works fields from the start of the bytes on. Most go by `feed`, which copies no rack; the one that it leaves is for `call`.
+fn take_some(r: Rack, s: &[u8], reply: &mut [u8], out: &mut [u8], at: usize) -> Worked
+    ensures { λ w. ⌜ (w .used ≤ length (now (s .entry))) × (w .more ≡ true → 0 < w .used) ⌝ }
+{
+    let start = next_index(out, at);
+    let fed = feed::feed(r, s, out, start, FULL);
+    let rest = feed::part_from(s, fed.used);
+    let between = fed.rack;
+    let a = rack::call(between, rest, reply);
+    let then = next_index(out, fed.next);
+    let next = base::put_text(out, then, part_to(reply, a.length));
+    let n = least(a.used, rest.len());
+    let rack = a.rack;
+    let code = a.code;
+    Worked {
+        rack,
+        used: s.len() - (rest.len() - n),
+        next,
+        code,
+        more: 0 < n,
+    }
 }
 
 // Works the fields of the bytes until a call refuses: at the latest, for want of bytes.
 fn take_fields(r: Rack, s: &[u8], reply: &mut [u8], out: &mut [u8]) -> Worked {
-    let mut rack = r;
+    let mut w = Worked {
+        rack: r,
+        used: 0,
+        next: 0,
+        code: 0,
+        more: true,
+    };
     let mut used = 0;
-    let mut next = 0;
-    let mut code = 0;
-    let mut going = true;
-    while going {
-        let rest = part_from(s, used);
-        let a = rack::call(rack, rest, reply);
-        next = put_reply(out, next_index(out, next), part_to(reply, a.length));
-        rack = a.rack;
-        code = a.code;
-        let n = least(a.used, rest.len());
-        going = 0 < n;
-        used += n;
+    while w.more {
+        let rack = w.rack;
+        let next = w.next;
+        w = take_some(rack, feed::part_from(s, used), reply, out, next);
+        used += w.used;
     }
+    let next = w.next;
     write_out(out, next);
-    Worked { rack, used, code }
+    w.used = used;
+    w
 }
 
 // Reads what is there behind the bytes that are kept; their number stays where the input has ended.

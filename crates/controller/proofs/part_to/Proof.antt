@@ -14,7 +14,7 @@ least-requires c κs = search needs
 
 -- src/main.rt:46:5
 slice-aggregate-result : tie.Need-slice-aggregate-result
-slice-aggregate-result c = sym (length-take-le _ _ (c .before .least .ensures))
+slice-aggregate-result c = sym (length-take-le _ _ (c .before .least .ensures .0))
 
 -- src/main.rt:44:1
 returns : tie.Need-returns

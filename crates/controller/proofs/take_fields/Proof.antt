@@ -1,94 +1,75 @@
--- `take_fields` is safe and ends: while it goes on, bytes are used up.
+-- `take_fields` is safe and ends: while there is more, bytes are used up.
 use borrow.Author.Needs.{needs}
 use native.Mathlib.Omega.{arith}
 use mathlib.Core.Path.{_≡_, refl, ap, _∙_}
-use mathlib.Core.Bool.{Bool, true, false}
 use Prim.Native.Nat.{_≤_, _+_, _-_}
 use lib.ListN.{length, length-drop}
 use Rattle.base.specs.Choice.{bit}
-use Rattle.base.proofs.Put.{put-length}
-use Rattle.controller.proofs.Spent.{spent}
+use Rattle.feed.proofs.Spent.{spent}
 use Rattle.controller.proofs.take_fields.Statement.{statement}
 use Rattle.controller.proofs.take_fields.Tie as tie
 use Rattle.controller.proofs.take_fields.Reads as reads
 use Rattle.controller.proofs.take_fields.Lts as lts
-use Rattle.controller.proofs.least.Reads as least-reads
-use Rattle.controller.proofs.next_index.Reads as next-index-reads
-use Rattle.controller.proofs.part_from.Reads as part-from-reads
-use Rattle.controller.proofs.part_to.Reads as part-to-reads
-use Rattle.controller.proofs.put_reply.Reads as put-reply-reads
+use Rattle.controller.proofs.take_some.Reads as take-some-reads
 use Rattle.controller.proofs.write_out.Reads as write-out-reads
-use Rattle.rack.proofs.call.Reads as call-reads
+use Rattle.feed.proofs.part_from.Reads as part-from-reads
 
 abbrev Inv-loop : tie.InvT-loop
-Inv-loop s reply₀ out₀ rack₀ used₀ next₀ code₀ going₀ reply out rack used next code going =
-    (used ≤ length s) × (length reply ≡ length reply₀) × (length out ≡ length out₀)
+Inv-loop s reply₀ out₀ w₀ used₀ reply out w used = (used ≤ length s) × (length reply ≡ length reply₀) × (length out ≡ length out₀)
 
 abbrev μ-loop : tie.MeasureT-loop
-μ-loop s reply₀ out₀ rack₀ used₀ next₀ code₀ going₀ reply out rack used next code going = length s - used + bit going
+μ-loop s reply₀ out₀ w₀ used₀ reply out w used = length s - used + bit (w .more)
 
--- src/main.rt:97:5
+-- src/main.rt:118:5
 loop-holds : tie.Need-loop-holds Inv-loop μ-loop
 loop-holds c = search needs
 
--- src/main.rt:98:13
+-- src/main.rt:121:29
 part-from-requires : tie.Need-part-from-requires Inv-loop μ-loop
 part-from-requires c κs = search needs
 
--- src/main.rt:99:13
-call-requires : tie.Need-call-requires Inv-loop μ-loop
-call-requires c κs = search needs
+-- src/main.rt:121:9
+take-some-requires : tie.Need-take-some-requires Inv-loop μ-loop
+take-some-requires c κs = search needs
 
--- src/main.rt:100:31
-next-index-requires : tie.Need-next-index-requires Inv-loop μ-loop
-next-index-requires c κs = search needs
-
--- src/main.rt:100:54
-part-to-requires : tie.Need-part-to-requires Inv-loop μ-loop
-part-to-requires c κs = search needs
-
--- src/main.rt:100:9
-put-reply-requires : tie.Need-put-reply-requires Inv-loop μ-loop
-put-reply-requires c κs = search needs
-
--- src/main.rt:103:13
-least-requires : tie.Need-least-requires Inv-loop μ-loop
-least-requires c κs = search needs
-
--- src/main.rt:105:9
+-- src/main.rt:122:9
 add-used : tie.Need-add-used Inv-loop μ-loop
 add-used c =
-    let l = c .before .before .before .before .before .before .before .before .before .before .before .before .before .before .before .before in
-    let k : c .least .result ≤ length (l .before .before .before .before .args .s .now) - l .loop .used = rw (← length-drop (l .loop .used) (l .before .before .before .before .args .s .now), ← c .before .before .before .before .before .before .before .before .before .before .before .before .before .before .part-from .ensures) (c .least .ensures) in
-    let m : l .loop .used + c .least .result ≤ length (l .before .before .before .before .args .s .now) = omega (arith, k, l .loop .inv .0) in
-    search needs
+    let l = c .before .before .before .before .before .before .before .before .before .before .before in
+    let s = c .before .before .before .before .before .before .before .before .before .before .before .before .before .before .before .args .s .now in
+    let k : c .before .before .before .before .before .take-some .result .used ≤ length s - l .loop .used = rw (← length-drop (l .loop .used) s, ← c .before .before .before .before .before .before .before .before .part-from .ensures) (c .before .before .before .before .before .take-some .ensures .0) in
+    let m : l .loop .used + c .before .before .before .before .before .take-some .result .used ≤ length s = omega (arith, k, l .loop .inv .0) in
+    search (needs, m, c .before .before .before .before .before .before .before .before .before .before .before .before .before .before .shared-slice-known .given)
 
--- src/main.rt:97:5
+-- src/main.rt:118:5
 loop-less : tie.Need-loop-less Inv-loop μ-loop
 loop-less c =
-    let l = c .before .before .before .before .before .before .before .before .before .before .before .before .before .before .before .before in
-    spent _ (l .loop .used) (c .least .result) (l .loop .going) (l .loop .inv .0) (rw (← length-drop (l .loop .used) (l .before .before .before .before .args .s .now), ← c .before .before .before .before .before .before .before .before .before .before .before .before .before .before .part-from .ensures) (c .least .ensures)) (c .before .before .before .before .before .before .before .before .before .before .before .before .before .before .before .loop-test .taken)
+    let l = c .before .before .before .before .before .before .before .before .before .before .before in
+    let s = c .before .before .before .before .before .before .before .before .before .before .before .before .before .before .before .args .s .now in
+    let k : c .before .before .before .before .before .take-some .result .used ≤ length s - l .loop .used = rw (← length-drop (l .loop .used) s, ← c .before .before .before .before .before .before .before .before .part-from .ensures) (c .before .before .before .before .before .take-some .ensures .0) in
+    spent (length s) (l .loop .used) (c .before .before .before .before .before .take-some .result .used) (l .loop .w .more) (c .before .before .before .before .before .take-some .result .more) (l .loop .inv .0) k (c .before .before .before .before .before .before .before .before .before .before .loop-test .taken) (c .before .before .before .before .before .take-some .ensures .1)
 
--- src/main.rt:97:5
+-- src/main.rt:118:5
 loop-again : tie.Need-loop-again Inv-loop μ-loop
 loop-again c =
-    let l = c .before .before .before .before .before .before .before .before .before .before .before .before .before .before .before .before in
-    let k : c .least .result ≤ length (l .before .before .before .before .args .s .now) - l .loop .used = rw (← length-drop (l .loop .used) (l .before .before .before .before .args .s .now), ← c .before .before .before .before .before .before .before .before .before .before .before .before .before .before .part-from .ensures) (c .least .ensures) in
-    (omega (arith, k, l .loop .inv .0), search needs, put-length (c .before .before .before .before .put-reply .ensures) ∙ l .loop .inv .2)
+    let l = c .before .before .before .before .before .before .before .before .before .before .before in
+    let s = c .before .before .before .before .before .before .before .before .before .before .before .before .before .before .before .args .s .now in
+    let k : c .before .before .before .before .before .take-some .result .used ≤ length s - l .loop .used = rw (← length-drop (l .loop .used) s, ← c .before .before .before .before .before .before .before .before .part-from .ensures) (c .before .before .before .before .before .take-some .ensures .0) in
+    (omega (arith, k, l .loop .inv .0), search needs, search needs)
 
--- src/main.rt:107:5
+-- src/main.rt:125:5
 write-out-requires : tie.Need-write-out-requires Inv-loop μ-loop
 write-out-requires c κs = search needs
 
--- src/main.rt:91:1
+-- src/main.rt:109:1
 same-length : tie.Need-same-length Inv-loop μ-loop
 same-length c = search needs
 
--- src/main.rt:91:1
+-- src/main.rt:109:1
 same-length-2 : tie.Need-same-length-2 Inv-loop μ-loop
 same-length-2 c = search needs
 
--- src/main.rt:91:1
+-- src/main.rt:109:1
 returns : tie.Need-returns Inv-loop μ-loop
 returns c = search needs
 
@@ -100,11 +81,7 @@ take-fields-spec =
     μ-loop
     loop-holds
     part-from-requires
-    call-requires
-    next-index-requires
-    part-to-requires
-    put-reply-requires
-    least-requires
+    take-some-requires
     add-used
     loop-less
     loop-again

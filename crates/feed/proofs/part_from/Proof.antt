@@ -5,10 +5,10 @@ use Prim.Native.Nat.{_-_}
 use lib.ListN.{length, drop, length-drop, drop-of-length-le}
 use lib.Seq.{take-all}
 use borrow.Author.Needs.{needs}
-use Rattle.controller.proofs.part_from.Statement.{statement}
-use Rattle.controller.proofs.part_from.Tie as tie
-use Rattle.controller.proofs.part_from.Reads as reads
-use Rattle.controller.proofs.part_from.Lts as lts
+use Rattle.feed.proofs.part_from.Statement.{statement}
+use Rattle.feed.proofs.part_from.Tie as tie
+use Rattle.feed.proofs.part_from.Reads as reads
+use Rattle.feed.proofs.part_from.Lts as lts
 
 -- src/main.rt:46:16
 sub-result : tie.Need-sub-result

@@ -1,0 +1,84 @@
+-- `end_lines` meets its contract: after i turns the first i bytes are as they are printed.
+use borrow.Author.Needs.{needs}
+use native.Mathlib.Omega.{arith}
+use mathlib.Core.Path.{_≡_, refl, sym, ap, _∙_}
+use Prim.Native.Nat.{_≤_, _-_}
+use lib.ListN.{length, length-set}
+use Rattle.base.specs.Lists.{eachTo}
+use Rattle.base.proofs.Lists.{eachTo-again}
+use Rattle.controller.specs.Printed.{printed}
+use Rattle.controller.proofs.end_lines.Statement.{statement}
+use Rattle.controller.proofs.end_lines.Tie as tie
+use Rattle.controller.proofs.end_lines.Reads as reads
+use Rattle.controller.proofs.end_lines.Lts as lts
+use Rattle.controller.proofs.least.Reads as least-reads
+use Rattle.controller.proofs.printed_byte.Reads as printed-byte-reads
+
+abbrev Inv-loop : tie.InvT-loop
+Inv-loop out₀ n end i₀ out i =
+    (i ≤ end) × (length out ≡ length out₀) × (end ≤ length out₀) × (n ≤ length out₀ → end ≡ n) × (out ≡ eachTo (λ j b. printed b) i out₀)
+
+abbrev μ-loop : tie.MeasureT-loop
+μ-loop out₀ n end i₀ out i = end - i
+
+-- src/main.rt:61:9
+least-requires : tie.Need-least-requires Inv-loop μ-loop
+least-requires c κs = search needs
+
+-- src/main.rt:63:5
+loop-holds : tie.Need-loop-holds Inv-loop μ-loop
+loop-holds c = (search needs, refl, c .least .ensures .0, c .least .ensures .1, refl)
+
+-- src/main.rt:64:31
+slice-read-printed-byte : tie.Need-slice-read-printed-byte Inv-loop μ-loop
+slice-read-printed-byte c = search needs
+
+-- src/main.rt:64:18
+printed-byte-requires : tie.Need-printed-byte-requires Inv-loop μ-loop
+printed-byte-requires c κs = search needs
+
+-- src/main.rt:64:9
+slice-write-out : tie.Need-slice-write-out Inv-loop μ-loop
+slice-write-out c = search needs
+
+-- src/main.rt:65:9
+add-i : tie.Need-add-i Inv-loop μ-loop
+add-i c = search needs
+
+-- src/main.rt:63:5
+loop-less : tie.Need-loop-less Inv-loop μ-loop
+loop-less c = search needs
+
+-- src/main.rt:63:5
+loop-again : tie.Need-loop-again Inv-loop μ-loop
+loop-again c =
+    let l = c .before .before .before in
+    (search needs, length-set (l .loop .out) _ _ ∙ l .loop .inv .1, l .loop .inv .2, l .loop .inv .3, eachTo-again (λ j b. printed b) (l .loop .i) _ (l .loop .out) 0 _ (l .loop .inv .4) (c .printed-byte .ensures))
+
+-- src/main.rt:58:1
+same-length : tie.Need-same-length Inv-loop μ-loop
+same-length c = search needs
+
+-- src/main.rt:58:1
+returns : tie.Need-returns Inv-loop μ-loop
+returns c = λ h.
+    let l = c .before in
+    let e : l .loop .i ≡ c .before .before .before .before .args .n = omega (arith, l .loop .inv .0, c .loop-test .left, l .loop .inv .3 h) in
+    rw (← e) (l .loop .inv .4)
+
+pub end-lines-spec : {M : Type 1} → statement M
+end-lines-spec =
+    tie.close
+    (tie.spec
+    Inv-loop
+    μ-loop
+    least-requires
+    loop-holds
+    slice-read-printed-byte
+    printed-byte-requires
+    slice-write-out
+    add-i
+    loop-less
+    loop-again
+    same-length
+    returns)

@@ -1,0 +1,5 @@
+pub mod Chars
+pub mod Fields
+pub mod Spent
+pub mod Steps
+pub mod Runs

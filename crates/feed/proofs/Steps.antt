@@ -1,0 +1,54 @@
+-- One field more: what the fields before it left and said, and then what it leaves and says.
+use Prim.Native.Nat.{ℕ, _+_, _≤_, _<_}
+use mathlib.Core.Path.{_≡_, refl, sym, ap, subst, _∙_}
+use mathlib.Core.Logic.{_⊎_, inl, inr}
+use mathlib.Core.Bool.{true}
+use mathlib.Core.List.{List, [], _∷_, _++_}
+use native.Mathlib.Omega.{arith}
+use native.Mathlib.Nat.{add-zero}
+use lib.ListN.{length, getD, set, drop}
+use lib.Seq.{set-getD}
+use Rattle.base.proofs.Put.{put-none, put-then}
+use Rattle.wire.specs.declared.Setup.{Setup}
+use Rattle.wire.specs.Wire.{fitted}
+use Rattle.supply.specs.declared.Supply.{Supply}
+use Rattle.supply.specs.State.{fresh}
+use Rattle.field.specs.Fields.{tagOf}
+use Rattle.serial.specs.declared.Line.{Line}
+use Rattle.slots.specs.declared.Rack.{Rack}
+use Rattle.slots.specs.View.{viewOf, rackIs}
+use Rattle.feed.specs.declared.Step.{Step}
+use Rattle.feed.specs.declared.Fed.{Fed}
+use Rattle.feed.specs.Feed.{none, more, FeedDoes, Untaken, Reaches, Goes, TakesDo}
+
+abbrev pub fedAs : List Supply → Line → Setup → ℕ → ℕ → Fed
+fedAs ss l u used next = record { rack = rackIs ss l u; used = used; next = next }
+
+pub fed-none : (ss : List Supply) (l : Line) (u : Setup) (s b : List ℕ) (at : ℕ) → l .count ≤ 64 → FeedDoes (rackIs ss l u) s b at (fedAs ss l u 0 at) b
+fed-none ss l u s b at h = record { said = []; small = h; works = none; put = put-none b at }
+
+module _ (r : Rack) (s b : List ℕ) (at : ℕ) (ss : List Supply) (l : Line) (u : Setup) (used next : ℕ) (b′ : List ℕ) (f : FeedDoes r s b at (fedAs ss l u used next) b′) (x : Supply) (k : ℕ) (there : x ≡ getD ss k (fresh 255)) (b″ : List ℕ) (st : Step) where
+  untaken-more : Untaken l x st b′ next b″ → FeedDoes r s b at (fedAs (set ss k (st .supply)) (st .line) u (used + st .used) (st .next)) b″
+  untaken-more t =
+      let same : set ss k x ≡ ss = rw there (set-getD ss k (fresh 255)) in
+      rw (t .0, t .1, same, add-zero) f
+
+  taken-more : Reaches u l (drop used s) k → Goes u l x (drop used s) st b′ next b″ → FeedDoes r s b at (fedAs (set ss k (st .supply)) (st .line) u (used + st .used) (st .next)) b″
+  taken-more reach g =
+      let gone = g ss k there reach (f .small) in
+      record { said = f .said ++ gone .said; small = gone .small; works = more _ _ used (st .used) (f .said) (gone .said) (f .works) (gone .call-is); put = put-then (f .put) (gone .put) }
+
+  pub fed-more : Reaches u l (drop used s) k → TakesDo u l x (drop used s) st b′ next b″ → FeedDoes r s b at (fedAs (set ss k (st .supply)) (st .line) u (used + st .used) (st .next)) b″
+  fed-more reach d = byTaken (d .1)
+    where
+      byTaken : Untaken l x st b′ next b″ ⊎ Goes u l x (drop used s) st b′ next b″ → FeedDoes r s b at (fedAs (set ss k (st .supply)) (st .line) u (used + st .used) (st .next)) b″
+      byTaken (inl t) = untaken-more t
+      byTaken (inr g) = taken-more reach g
+
+-- the slot reached, by the tag
+module _ (u : Setup) (l : Line) (s : List ℕ) (k : ℕ) where
+  pub reached-by-line : tagOf s ≡ 1 → (fitted u (l .selected) ≡ true → k ≡ l .selected) → Reaches u l s k
+  reached-by-line t e = record { by-line = λ q f. e f; by-name = λ q f. absurd (q t) }
+
+  pub reached-by-name : (tagOf s ≡ 1 → ⊥) → (fitted u (getD s 3 0) ≡ true → k ≡ getD s 3 0) → Reaches u l s k
+  reached-by-name t e = record { by-line = λ q f. absurd (t q); by-name = λ q f. e f }

@@ -1,0 +1,77 @@
+-- `take_serial` meets its contract.
+use mathlib.Core.Path.{refl}
+use mathlib.Core.Logic.{inl}
+use denote.Ref.{now}
+use Rattle.feed.proofs.Fields.{no-line, one-line}
+use borrow.Author.Needs.{needs}
+use Rattle.feed.proofs.take_serial.Statement.{statement}
+use Rattle.feed.proofs.take_serial.Tie as tie
+use Rattle.feed.proofs.take_serial.Reads as reads
+use Rattle.feed.proofs.take_serial.Lts as lts
+use Rattle.feed.proofs.take_chars.Reads as take-chars-reads
+use Rattle.feed.proofs.untaken.Reads as untaken-reads
+use Rattle.slots.proofs.end_one.Reads as end-one-reads
+
+-- src/lib.rt:83:9
+take-chars-requires : tie.Need-take-chars-requires
+take-chars-requires c κs = search needs
+
+-- src/lib.rt:87:9
+returns : tie.Need-returns
+returns c =
+    let z = c .before .before .before .before .before .args in
+    no-line (z .u) (z .l) (z .s) (now (z .p)) (z .used) (now (z .buf)) (z .at) (c .before .before .take-chars .result) (c .before .before .take-chars .ensures) (c .if1 .taken)
+
+-- src/lib.rt:94:8
+add-if2 : tie.Need-add-if2
+add-if2 c = search needs
+
+-- src/lib.rt:95:9
+untaken-requires : tie.Need-untaken-requires
+untaken-requires c κs = search needs
+
+-- src/lib.rt:95:9
+returns-2 : tie.Need-returns-2
+returns-2 c = inl (c .untaken .ensures, refl)
+
+-- src/lib.rt:97:9
+end-one-requires : tie.Need-end-one-requires
+end-one-requires c κs = search needs
+
+-- src/lib.rt:99:9
+untaken-requires-2 : tie.Need-untaken-requires-2
+untaken-requires-2 c κs = search needs
+
+-- src/lib.rt:99:9
+same-length : tie.Need-same-length
+same-length c = search needs
+
+-- src/lib.rt:99:9
+returns-3 : tie.Need-returns-3
+returns-3 c = inl (c .untaken2 .ensures, c .before .before .before .before .end-one .ensures .1 (c .before .if3 .taken) .1)
+
+-- src/lib.rt:72:1
+same-length-2 : tie.Need-same-length-2
+same-length-2 c = search needs
+
+-- src/lib.rt:72:1
+returns-4 : tie.Need-returns-4
+returns-4 c =
+    let z = c .before .before .before .before .before .before .before .before .before .before .before .before .before .args in
+    one-line (z .u) (z .l) (z .s) (now (z .p)) (z .used) (now (z .buf)) (z .at) (c .before .before .before .before .before .before .before .before .before .before .take-chars .result) (c .before .before .before .before .before .before .before .before .before .before .take-chars .ensures) (c .before .before .before .before .before .before .before .before .if1 .left) (c .before .before .before .before .before .before .before .if2 .left) (c .before .before .before .before .before .end-one .result) _ (c .before .before .before .before .before .end-one .ensures .0 (c .before .before .if3 .left))
+
+pub take-serial-spec : {M : Type 1} → statement M
+take-serial-spec =
+    tie.close
+    (tie.spec
+    take-chars-requires
+    returns
+    add-if2
+    untaken-requires
+    returns-2
+    end-one-requires
+    untaken-requires-2
+    same-length
+    returns-3
+    same-length-2
+    returns-4)
