@@ -1,4 +1,4 @@
--- The formula that the code has for each field, against the paper's sentences: by cases on their tests.
+-- A formula for each field, against the paper's sentences: by cases on their tests.
 use mathlib.Core.Path.{_≡_, refl}
 use mathlib.Core.Bool.{Bool, true, false, not, _&&_, _||_}
 use Prim.Native.Nat.{ℕ}

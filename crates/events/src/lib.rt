@@ -59,18 +59,23 @@ pub fn lines_changed(s: Supply, b: u8) -> Supply
     t
 }
 
-// A sample of two counts.
+// A sample of two counts. They are read only with the output on, since only then do they trip.
 pub fn sampled_at(model: u8, s: Supply, v: u16, a: u16) -> Supply
     ensures { λ r. ⌜ r ≡ sampled model s v a ⌝ }
 {
-    let on = supply::is_on(s);
-    let over = (s.ovp as u64) <= models::volt_reading(model, v);
     let mut t = s;
     t.volt_count = v;
     t.amp_count = a;
-    let limited = s.armed & supply::in_limit(model, t);
-    t.ovp_trip = (on & over) | s.ovp_trip;
-    t.fold_trip = (on & !over & limited) | s.fold_trip;
+    if supply::is_on(s) {
+        let read = models::readings_of(model, v, a);
+        let over = (s.ovp as u64) <= read.volts;
+        let limited = s.armed & supply::reaches_pc(s, read.amps);
+        if over {
+            t.ovp_trip = true;
+        } else if limited {
+            t.fold_trip = true;
+        }
+    }
     t
 }
 

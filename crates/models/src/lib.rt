@@ -12,6 +12,12 @@ pub struct Limits {
     pub uvl_most: u32,
 }
 
+// What a sample reads: volts in ticks of 0.1 mV, amperes in mA.
+pub struct Readings {
+    pub volts: u64,
+    pub amps: u64,
+}
+
 const MODELS: [Limits; 12] = [
     Limits {
         volts: 60_000,
@@ -137,4 +143,15 @@ pub fn amp_reading(model: u8, count: u16) -> u64
 {
     let l = limits_of(model);
     reading(count, l.amps)
+}
+
+// Both readings of a sample of two counts, by one look at the table.
+pub fn readings_of(model: u8, v: u16, a: u16) -> Readings
+    ensures { λ r. ⌜ (r .volts ≡ voltReading model v) × (r .amps ≡ ampReading model a) ⌝ }
+{
+    let l = limits_of(model);
+    Readings {
+        volts: reading(v, l.volts),
+        amps: reading(a, l.amps),
+    }
 }

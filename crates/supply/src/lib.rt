@@ -1,5 +1,6 @@
 // The plain supply: its state, whatever it can be asked, and FLT. The model goes beside the state.
 ghost use mathlib.Core.Path.{_≡_};
+ghost use lib.Dec.{leb};
 ghost use Rattle.supply.specs.State.{fresh};
 ghost use Rattle.supply.specs.Flt.{fltOf, onOf, linesClear, inLimit, settled};
 
@@ -126,11 +127,18 @@ pub fn lines_clear(s: Supply) -> bool
     s.lines == 0
 }
 
+// An ampere reading is at least PC.
+pub fn reaches_pc(s: Supply, amps: u64) -> bool
+    ensures { λ r. ⌜ r ≡ leb (s .pc) amps ⌝ }
+{
+    (s.pc as u64) <= amps
+}
+
 // The ampere reading of the stored counts is at least PC.
 pub fn in_limit(model: u8, s: Supply) -> bool
     ensures { λ r. ⌜ r ≡ inLimit model s ⌝ }
 {
-    (s.pc as u64) <= models::amp_reading(model, s.amp_count)
+    reaches_pc(s, models::amp_reading(model, s.amp_count))
 }
 
 // FEVE gains each FLT bit that rose and was enabled before.
