@@ -1,6 +1,8 @@
 // Whatever a supply can be asked, in three stages: what it does, what the registers gain, and how it closes.
 ghost use mathlib.Core.Path.{_≡_};
-ghost use Rattle.acts.specs.Acts.{codeOf, clearingQuery, clearingOrder, clearingAct, cleared, acted, performed};
+ghost use Rattle.supply.specs.Flt.{settled};
+ghost use Rattle.orders.specs.Orders.{orderCode};
+ghost use Rattle.acts.specs.Acts.{codeOf, clearingQuery, clearingOrder, cleared, performed};
 ghost use Rattle.acts.specs.Answers.{switchOf, modeWord, running, answerOf};
 use supply::Act;
 use supply::Answer;
@@ -20,20 +22,6 @@ fn clear_feve(s: Supply, test: bool) -> Supply
         t
     } else {
         s
-    }
-}
-
-fn act_code(model: u8, s: Supply, a: Act) -> u8
-    ensures { λ r. ⌜ r ≡ codeOf model s a ⌝ }
-{
-    match a {
-        Act::Obey(o) => orders::order_code(model, s, o),
-        Act::Lines(_) => 0,
-        Act::Sample(_, _) => 0,
-        Act::Press(_) => 0,
-        Act::Turn(_, _) => 0,
-        Act::Ask(_) => 0,
-        Act::Nothing => 0,
     }
 }
 
@@ -58,21 +46,6 @@ fn query_clears(q: Query) -> bool
     }
 }
 
-// First stage: what an accepted act does.
-fn act_done(model: u8, s: Supply, a: Act) -> Supply
-    ensures { λ r. ⌜ (codeOf model s a ≡ 0 → r ≡ acted model s a) ⌝ }
-{
-    match a {
-        Act::Lines(b) => events::lines_changed(s, b),
-        Act::Sample(v, i) => events::sampled_at(model, s, v, i),
-        Act::Press(k) => events::press(s, k),
-        Act::Turn(t, raw) => events::turn(model, s, t, raw),
-        Act::Obey(o) => orders::order_done(model, s, o),
-        Act::Ask(q) => clear_feve(s, query_clears(q)),
-        Act::Nothing => s,
-    }
-}
-
 fn order_clears(o: Order) -> bool
     ensures { λ r. ⌜ r ≡ clearingOrder o ⌝ }
 {
@@ -89,33 +62,43 @@ fn order_clears(o: Order) -> bool
     }
 }
 
-// Third stage: CLS and RST close with FEVE 0.
-fn act_clears(a: Act) -> bool
-    ensures { λ r. ⌜ r ≡ clearingAct a ⌝ }
+// Second stage of an act that no supply refuses; it closes as it is.
+fn accept(before: Supply, after: Supply) -> Outcome
+    ensures { λ r. ⌜ (r .code ≡ 0) × (r .supply ≡ settled before after) ⌝ }
 {
-    match a {
-        Act::Obey(o) => order_clears(o),
-        Act::Lines(_) => false,
-        Act::Sample(_, _) => false,
-        Act::Press(_) => false,
-        Act::Turn(_, _) => false,
-        Act::Ask(_) => false,
-        Act::Nothing => false,
+    Outcome {
+        code: 0,
+        supply: supply::settle(before, after),
     }
 }
 
-// An act: its code, and the supply after it. What is refused changes nothing.
-pub fn perform(model: u8, s: Supply, a: Act) -> Outcome
-    ensures { λ r. ⌜ (r .code ≡ codeOf model s a) × (r .supply ≡ performed model s a) ⌝ }
+// An order: its code, and the supply after it. What is refused changes nothing, and CLS and RST close with FEVE 0.
+fn obey_order(model: u8, s: Supply, o: Order) -> Outcome
+    ensures { λ r. ⌜ (r .code ≡ orderCode model s o) × (r .supply ≡ performed model s (Act.Obey o)) ⌝ }
 {
-    let code = act_code(model, s, a);
+    let code = orders::order_code(model, s, o);
     if code != 0 {
         return Outcome { code, supply: s };
     }
-    let done = supply::settle(s, act_done(model, s, a));
+    let done = supply::settle(s, orders::order_done(model, s, o));
     Outcome {
         code,
-        supply: clear_feve(done, act_clears(a)),
+        supply: clear_feve(done, order_clears(o)),
+    }
+}
+
+// An act: its code, and the supply after it. Only an order can be refused.
+pub fn perform(model: u8, s: Supply, a: Act) -> Outcome
+    ensures { λ r. ⌜ (r .code ≡ codeOf model s a) × (r .supply ≡ performed model s a) ⌝ }
+{
+    match a {
+        Act::Lines(b) => accept(s, events::lines_changed(s, b)),
+        Act::Sample(v, i) => accept(s, events::sampled_at(model, s, v, i)),
+        Act::Press(k) => accept(s, events::press(s, k)),
+        Act::Turn(t, raw) => accept(s, events::turn(model, s, t, raw)),
+        Act::Obey(o) => obey_order(model, s, o),
+        Act::Ask(q) => accept(s, clear_feve(s, query_clears(q))),
+        Act::Nothing => accept(s, s),
     }
 }
 

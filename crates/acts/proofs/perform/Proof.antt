@@ -1,56 +1,125 @@
 -- `perform` meets its contract.
-use borrow.Author.Tests.{eq-eqb, ne-eqb}
-use mathlib.Core.Path.{sym, _∙_}
-use Rattle.acts.specs.Acts.{performed}
+use Rattle.acts.specs.Acts.{codeOf, acted, clearingAct, performed}
 use borrow.Author.Needs.{needs}
 use Rattle.acts.proofs.perform.Statement.{statement}
 use Rattle.acts.proofs.perform.Tie as tie
-use Rattle.acts.proofs.perform.Reads as reads
-use Rattle.acts.proofs.perform.Lts as lts
-use Rattle.acts.proofs.act_clears.Reads as act-clears-reads
-use Rattle.acts.proofs.act_code.Reads as act-code-reads
-use Rattle.acts.proofs.act_done.Reads as act-done-reads
-use Rattle.acts.proofs.clear_feve.Reads as clear-feve-reads
-use Rattle.supply.proofs.settle.Reads as settle-reads
 
--- src/lib.rt:111:9
-act-code-requires : tie.Need-act-code-requires
-act-code-requires c κs = search needs
+enum-known-a : tie.Need-enum-known-a
+enum-known-a c = search needs
 
--- src/lib.rt:113:9
-returns : tie.Need-returns
-unfolding performed
-returns c = (c .before .act-code .ensures, rw (← c .before .act-code .ensures, ne-eqb _ _ (c .if1 .taken)))
+lines-changed-requires : tie.Need-lines-changed-requires
+lines-changed-requires c κs = search needs
 
--- src/lib.rt:115:34
-act-done-requires : tie.Need-act-done-requires
-act-done-requires c κs = search needs
+accept-requires : tie.Need-accept-requires
+accept-requires c κs = search needs
 
--- src/lib.rt:115:9
-settle-requires : tie.Need-settle-requires
-settle-requires c κs = search needs
+enum-known-a-2 : tie.Need-enum-known-a-2
+enum-known-a-2 c = search needs
 
--- src/lib.rt:118:34
-act-clears-requires : tie.Need-act-clears-requires
-act-clears-requires c κs = search needs
+sampled-at-requires : tie.Need-sampled-at-requires
+sampled-at-requires c κs = search needs
 
--- src/lib.rt:118:17
+accept-requires-2 : tie.Need-accept-requires-2
+accept-requires-2 c κs = search needs
+
+enum-known-a-3 : tie.Need-enum-known-a-3
+enum-known-a-3 c = search needs
+
+press-requires : tie.Need-press-requires
+press-requires c κs = search needs
+
+accept-requires-3 : tie.Need-accept-requires-3
+accept-requires-3 c κs = search needs
+
+enum-known-a-4 : tie.Need-enum-known-a-4
+enum-known-a-4 c = search needs
+
+turn-requires : tie.Need-turn-requires
+turn-requires c κs = search needs
+
+accept-requires-4 : tie.Need-accept-requires-4
+accept-requires-4 c κs = search needs
+
+enum-known-a-5 : tie.Need-enum-known-a-5
+enum-known-a-5 c = search needs
+
+obey-order-requires : tie.Need-obey-order-requires
+obey-order-requires c κs = search needs
+
+enum-known-a-6 : tie.Need-enum-known-a-6
+enum-known-a-6 c = search needs
+
+query-clears-requires : tie.Need-query-clears-requires
+query-clears-requires c κs = search needs
+
 clear-feve-requires : tie.Need-clear-feve-requires
 clear-feve-requires c κs = search needs
 
--- src/lib.rt:108:1
+accept-requires-5 : tie.Need-accept-requires-5
+accept-requires-5 c κs = search needs
+
+enum-told : tie.Need-enum-told
+enum-told c = search needs
+
+accept-requires-6 : tie.Need-accept-requires-6
+accept-requires-6 c κs = search needs
+
+returns : tie.Need-returns
+unfolding performed codeOf acted clearingAct
+returns c = rw (c .before .before .before .a .given .1, ← c .before .lines-changed .ensures) (c .accept .ensures)
+
 returns-2 : tie.Need-returns-2
-unfolding performed
-returns-2 c = (c .before .before .before .before .before .act-code .ensures, rw (← c .before .before .before .before .before .act-code .ensures, eq-eqb _ _ (c .before .before .before .before .if1 .left), ← c .before .before .before .act-done .ensures (sym (c .before .before .before .before .before .act-code .ensures) ∙ c .before .before .before .before .if1 .left), ← c .before .before .settle .ensures, ← c .before .act-clears .ensures) (c .clear-feve .ensures))
+unfolding performed codeOf acted clearingAct
+returns-2 c = rw (c .before .before .before .a2 .given .1, ← c .before .sampled-at .ensures) (c .accept2 .ensures)
+
+returns-3 : tie.Need-returns-3
+unfolding performed codeOf acted clearingAct
+returns-3 c = rw (c .before .before .before .a3 .given .1, ← c .before .press .ensures) (c .accept3 .ensures)
+
+returns-4 : tie.Need-returns-4
+unfolding performed codeOf acted clearingAct
+returns-4 c = rw (c .before .before .before .a4 .given .1, ← c .before .turn .ensures) (c .accept4 .ensures)
+
+returns-5 : tie.Need-returns-5
+unfolding codeOf
+returns-5 c = rw (c .before .before .a5 .given .1) (c .obey-order .ensures)
+
+returns-6 : tie.Need-returns-6
+unfolding performed codeOf acted clearingAct
+returns-6 c = rw (c .before .before .before .before .a6 .given .1, ← c .before .before .query-clears .ensures, ← c .before .clear-feve .ensures) (c .accept5 .ensures)
+
+returns-7 : tie.Need-returns-7
+unfolding performed codeOf acted clearingAct
+returns-7 c = rw (c .before .enum-told .given .1) (c .accept6 .ensures)
 
 pub perform-spec : {M : Type 1} → statement M
 perform-spec =
     tie.close
     (tie.spec
-    act-code-requires
-    returns
-    act-done-requires
-    settle-requires
-    act-clears-requires
+    enum-known-a
+    lines-changed-requires
+    accept-requires
+    enum-known-a-2
+    sampled-at-requires
+    accept-requires-2
+    enum-known-a-3
+    press-requires
+    accept-requires-3
+    enum-known-a-4
+    turn-requires
+    accept-requires-4
+    enum-known-a-5
+    obey-order-requires
+    enum-known-a-6
+    query-clears-requires
     clear-feve-requires
-    returns-2)
+    accept-requires-5
+    enum-told
+    accept-requires-6
+    returns
+    returns-2
+    returns-3
+    returns-4
+    returns-5
+    returns-6
+    returns-7)
