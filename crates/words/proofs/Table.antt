@@ -27,9 +27,8 @@ packed-lt : (s : List ℕ) → Bytes s → (n : ℕ) → packed s n < 2 * 256 ^ 
 packed-lt s h zero = lit< tt
 packed-lt s h (suc n) = rw (pow-suc 256 n) (omega (arith, packed-lt s h n, h n))
 
-pub packed-step : (s : List ℕ) (n : ℕ) → 0 < n → packed s n ≡ packed s (n - 1) * 256 + getD s (n - 1) 0
-packed-step s zero h = absurd (omega arith)
-packed-step s (suc n) h = let e : suc n - 1 ≡ n = omega arith in rw e refl
+pub packed-next : (s : List ℕ) (i : ℕ) → packed s (i + 1) ≡ packed s i * 256 + getD s i 0
+packed-next s i = let e : i + 1 ≡ suc i = omega arith in rw e refl
 
 packed-inj : (s t : List ℕ) → Bytes s → Bytes t → (n m : ℕ) → packed s n ≡ packed t m → (n ≡ m) × ((i : ℕ) → i < n → getD s i 0 ≡ getD t i 0)
 packed-inj s t hs ht zero zero e = (refl, λ i l. absurd (omega arith))

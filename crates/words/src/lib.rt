@@ -22,11 +22,13 @@ fn pack_word(s: &[u8], n: usize) -> u64
     requires { ⌜ (n ≤ 5) × (n ≤ length (now s)) ⌝ }
     ensures { λ r. ⌜ r ≡ packed (upperAll (now (s .entry))) n ⌝ }
 {
-    if n == 0 {
-        1
-    } else {
-        pack_word(s, n - 1) * 256 + base::wide(upper_byte(s[n - 1]))
+    let mut word: u64 = 1;
+    let mut i = 0;
+    while i < n {
+        word = word * 256 + base::wide(upper_byte(s[i]));
+        i += 1;
     }
+    word
 }
 
 // A word's number; of a word with more than five characters, which no table has, 0.
