@@ -202,7 +202,7 @@ fn number(text: &[u8], decimals: usize) -> Result<i64, Code> {
     Ok(run_value(&run[..whole.len() + decimals]))
 }
 
-/// A run's value is that of the run without its last digit, times ten, plus the last.
+/// The value of digits, by what stands before the last of them.
 fn run_value(digits: &[u8]) -> i64 {
     match digits.split_last() {
         None => 0,

@@ -1,5 +1,5 @@
-//! The rack: 31 slots on one serial line, driven by fields. A call takes the first field of
-//! the bytes lent to it, or refuses with a number and leaves everything as it was.
+//! The rack: 31 slots on one serial line, driven by fields. A call works one field,
+//! the first of its bytes, or refuses with a number and leaves everything as it was.
 
 use crate::line::{self, Reading, Said, Whom, LINE_ROOM};
 use crate::supply::{Event, Key, Supply, Target, LINE_BITS, MODELS};

@@ -1,5 +1,5 @@
-// The program: a fitting list and then fields from standard input, each reply to standard output with LF for
-// its CR. A field is answered as soon as its last byte is there. A refusal is printed and ends the program.
+// The program: standard input brings a fitting list and then fields; what they draw goes to standard output, its lines ended
+// by LF. A field is answered as soon as its last byte is there. A refusal is printed and ends the program.
 ghost use mathlib.Core.Path.{_≡_};
 ghost use mathlib.Core.Bool.{true};
 ghost use Prim.Native.Nat.{_≤_, _<_};
@@ -82,7 +82,8 @@ fn next_index(out: &mut [u8], n: usize) -> usize {
     if n < FULL { n } else { write_out(out, n) }
 }
 
-// Works fields from the start of the bytes on. Most go by `feed`, which copies no rack; the one that it leaves is for `call`.
+// Works fields from the start of the bytes on. Most go by `feed`, which copies the rack once for all of them; the one that it
+// leaves is for `call`.
 fn take_some(r: Rack, s: &[u8], reply: &mut [u8], out: &mut [u8], at: usize) -> Worked
     ensures { λ w. ⌜ (w .used ≤ length (now (s .entry))) × (w .more ≡ true → 0 < w .used) ⌝ }
 {

@@ -110,7 +110,7 @@ fn put_bytes(buf: &mut [u8], text: &[u8]) -> usize {
     at
 }
 
-// A supply takes a global as the order that it stands for, and says nothing.
+// To a supply a global is one order more, which it does not answer.
 fn obey_silently(model: u8, s: Supply, a: Act) -> Obeyed {
     let done = acts::perform(model, s, a);
     let after = done.supply;

@@ -42,7 +42,8 @@ elsewhere a (event b e ∷ is) = not (eqb a b) && elsewhere a is
 abbrev pub concerns : Setup → ℕ → Call → Bool
 concerns u a c = not (elsewhere a (items (parse grammar u c)))
 
--- and the neighbours' fields alone: whatever fields of tags 2 to 5 went to other slots, and whatever was refused, at any places
+-- and the neighbours' fields alone: whatever fields of tags 2 to 5 went to other slots, and whatever was refused, at any places;
+-- the other calls are the same to the byte, the lengths of their buffers included
 abbrev pub NeighboursDoNotCount : Type 0
 NeighboursDoNotCount =
     (l : List ℕ) (calls calls₂ : List Call) (r r₂ : Rack) (a : ℕ)

@@ -26,7 +26,7 @@ serial t = record { bytes = 1 ∷ 0 ∷ length (codes t) ∷ codes t; room = 512
 abbrev pub sample : ℕ → ℕ → ℕ → Call
 sample a v i = record { bytes = 5 ∷ 0 ∷ 5 ∷ a ∷ v / 256 ∷ v % 256 ∷ i / 256 ∷ i % 256 ∷ []; room = 512 }
 
--- up to the trip: ADR comes in two fields, with a call between them that is refused for its buffer, and one that is cut short
+-- up to the trip: ADR comes in two fields, with a call between them that is refused for its buffer; later comes one of two bytes
 unfoldable pub tripping : List Call
 tripping =
     serial "ADR" ∷ record { bytes = serial " 9\r" .bytes; room = 511 } ∷ serial " 6\rPV 5\r" ∷

@@ -21,7 +21,7 @@ use Rattle.rack.specs.Calls.{refusal, Answered, CallDoes, callAs}
 use Rattle.rack.specs.Fit.{goodList}
 use Rattle.rack.specs.Demand3.{Leads, Run, setupOf}
 
--- a rack of the code with this view
+-- a record with this view; its line holds the kept characters alone, where the code's array has 64 bytes
 abbrev packed : wire.Rack Supply → Rack
 packed v =
     record {

@@ -64,7 +64,7 @@ pub record AtAddress (l : List ℕ) (calls : List Call) (a : ℕ) : Type 0 where
   pub margins : (past rest : List Call) (r : Rack) → calls ≡ past ++ rest → Run l past r
       → (20 * supplyAt r a .uvl ≤ 19 * supplyAt r a .pv) × (21 * supplyAt r a .pv ≤ 20 * supplyAt r a .ovp)
   pub limits : (past rest : List Call) (r : Rack) → calls ≡ past ++ rest → Run l past r → Lawful (modelAt (setupOf l) a) (supplyAt r a)
-  -- off after every call from the one with the trip on, until the one that brings a release of that trip
+  -- the call that trips leaves the output off, and so does each one behind it, as long as none has brought a release of that trip
   pub calls-off : (k : Trip) (past rest : List Call) (r : Rack) → calls ≡ past ++ rest → Run l past r
       → TrippedBy plainSupply trips (modelAt (setupOf l) a) k (shareOf grammar (setupOf l) past a)
       → onOf (supplyAt r a) ≡ false

@@ -23,7 +23,7 @@ allAllowed l = foldl (λ (t : Bool) (m : ℕ). t && allowed m) true l
 abbrev pub goodList : List ℕ → Bool
 goodList l = eqb (length l) 31 && allAllowed l
 
--- the fresh rack of a setup: each fitted supply fresh, nobody selected, no character kept, no line spoiled
+-- the fresh rack of a setup: every supply as it is when fitted, no selection, and an empty line that is not spoiled
 pub record Made (u : Setup) (r : Rack) : Type 0 where
   pub small : r .line .count ≤ 64
   pub fresh-is : viewOf r ≡ freshRack plainSupply u

@@ -99,7 +99,7 @@ fn all_allowed(list: &[u8]) -> bool
     good
 }
 
-// The models of a list of 31; where it is shorter, empty slots.
+// The models of a list of 31 bytes.
 fn models_of(list: &[u8]) -> [u8; 31]
     ensures { λ r. ⌜ (length (now (list .entry)) ≡ 31 → r ≡ now (list .entry)) ⌝ }
 {

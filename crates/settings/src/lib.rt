@@ -93,7 +93,7 @@ fn summed(x: u32, raw: u32) -> u64
     }
 }
 
-// A setting after a step, brought to the nearest value that keeps margins and limits.
+// A setting after a step; where margins or limits forbid the sum, the allowed value next to it.
 pub fn stepped_setting(model: u8, s: Supply, t: Target, raw: u32) -> u32
     ensures { λ r. ⌜ r ≡ stepped model s t raw ⌝ }
 {

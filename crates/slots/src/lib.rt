@@ -80,7 +80,7 @@ fn with_line(r: Rack, l: Line) -> Rack
     q
 }
 
-// A line for at most one supply, ended.
+// A line for at most one supply, ended. An order has to stand there; nobody looks at it.
 fn one_ended(line: Line, supply: Supply, next: usize) -> Ended
     ensures { λ e. ⌜ e ≡ record { line = line; supply = supply; next = next; all = false; order = Cls } ⌝ }
 {

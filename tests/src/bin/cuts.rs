@@ -7,6 +7,10 @@ use std::sync::atomic::{AtomicUsize, Ordering};
 use std::sync::Mutex;
 
 const WORKERS: usize = 2;
+/// Bytes of a fitting list.
+const SLOTS: usize = 31;
+/// How often the line of a long list comes.
+const MANY: usize = 20_000;
 /// So many faults are shown with their lists; the rest are only counted.
 const MOST_SHOWN: usize = 5;
 
@@ -99,7 +103,20 @@ fn inputs() -> Result<Vec<(String, Vec<u8>)>, String> {
     for at in 0..body.len() {
         inputs.extend(changed(&body, at));
     }
+    for line in ["PV?", "PV?\\rMV?", "GPV 3\\rPV?", "PV 9.9"] {
+        inputs.push((format!("{MANY} times {line}"), many(line)?));
+    }
     Ok(inputs)
+}
+
+/// One line over and over: more bytes than one read brings, and more replies than wait for each other.
+fn many(line: &str) -> Result<Vec<u8>, String> {
+    let mut list = script::parse(b"fit 6 11\nline ADR 6\nline PV 600")?.bytes();
+    let again = script::parse(format!("fit 6 11\ntext \"{line}\\r\"").as_bytes())?.bytes();
+    for _ in 0..MANY {
+        list.extend(&again[SLOTS..]);
+    }
+    Ok(list)
 }
 
 /// The list with a byte put in, changed or taken out at this place.
