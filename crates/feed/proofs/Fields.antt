@@ -6,8 +6,9 @@ use mathlib.Core.Bool.{Bool, true, false}
 use mathlib.Core.List.{List, [], _∷_, _++_, map, map-append}
 use native.Mathlib.Numerals.{add-one}
 use native.Mathlib.Omega.{arith}
-use lib.ListN.{length, getD, set, take}
+use lib.ListN.{length, getD, set, take, length-take}
 use lib.Seq.{take-suc, take-all, set-getD}
+use Rattle.base.specs.Choice.{bit}
 use Rattle.base.specs.Put.{Put}
 use Rattle.base.proofs.Put.{put-none}
 use Rattle.wire.specs.declared.Setup.{Setup}
@@ -26,9 +27,15 @@ use Rattle.plain.specs.Plain.{plainSupply, grammar, classOf, stepOf, replyTo}
 use Rattle.slots.specs.declared.Ended.{Ended}
 use Rattle.slots.specs.View.{viewOf, rackIs, Moves, Ends, scanned}
 use Rattle.slots.proofs.Runs.{moves-then}
+use Rattle.slots.proofs.Fairness.{ended-room}
+use Rattle.protocol.specs.SentBack.{Sized}
 use Rattle.feed.specs.declared.Typed.{Typed}
 use Rattle.feed.specs.declared.Step.{Step}
-use Rattle.feed.specs.Feed.{fieldAt, Typing, CharsDo, Untaken, SerialMoves, SerialDoes, EventTaken, EventDoes, Reaches, Gone, Goes, TakesDo}
+use Rattle.feed.specs.Feed.{fieldAt, Typing, CharsDo, Untaken, SerialMoves, SerialRoom, SerialDoes, EventTaken, EventDoes, Reaches, Gone, Goes, TakesDo}
+
+bit-small : (t : Bool) → bit t ≤ 1
+bit-small true = omega arith
+bit-small false = omega arith
 
 module _ (u : Setup) (l : Line) (s : Supply) (p : List ℕ) (used : ℕ) (b : List ℕ) (at : ℕ) where
   -- characters move nothing but the line
@@ -41,11 +48,13 @@ module _ (u : Setup) (l : Line) (s : Supply) (p : List ℕ) (used : ℕ) (b : Li
       inr (
         refl,
         λ ss k e f h.
-            let all : take (c .next) p ≡ p = take-all (c .next) p (omega (arith, n)) in
-            let t : Typing l p (c .line) = subst (λ (xs : List ℕ). Typing l xs (c .line)) all (d .2 h) in
             let same : set ss k s ≡ ss = rw e (set-getD ss k (fresh 255)) in
-            rw (t .scans grammar u, same) (typed-moves ss (c .line) (t .small)),
+            rw (all h .scans grammar u, same) (typed-moves ss (c .line) (all h .small)),
+        λ ss k e f h. rw (all h .scans grammar u) (omega arith),
       )
+    where
+      all : l .count ≤ 64 → Typing l p (c .line)
+      all h = subst (λ (xs : List ℕ). Typing l xs (c .line)) (take-all (c .next) p (omega (arith, n))) (d .2 h)
 
   -- the last byte ends a line
   module _ (c : Typed) (d : CharsDo l p c) (n : c .next ≡ length p → ⊥) (m : length p ≤ c .next + 1) where
@@ -62,15 +71,22 @@ module _ (u : Setup) (l : Line) (s : Supply) (p : List ℕ) (used : ℕ) (b : Li
         ∙ rw (map-append byte (take (c .next) p) (13 ∷ []), scan-more grammar u (wireOf l) (map byte (take (c .next) p)) (byte 13), t .scans grammar u) refl
 
     pub one-line : (x : Ended) (b′ : List ℕ)
+        → Sized s
         → Ends u (c .line) s (classOf (take (c .line .count) (c .line .kept)) (c .line .spoiled)) x b at b′
         → SerialDoes u l s p used (record { line = x .line; supply = x .supply; next = x .next; used = used }) b at b′
-    one-line x b′ g =
+    one-line x b′ z g =
         inr (
           refl,
           λ ss k e f h.
               let t : Typing l (take (c .next) p) (c .line) = d .2 h in
               rw (ends-with t)
               (moves-then (rackIs ss l u) (rackIs ss (c .line) u) (quiet (wireOf (c .line))) refl _ _ b at at b _ b′ (typed-moves ss (c .line) (t .small)) (g ss k e (λ fit. f (rw (t .selects) at fit) ∙ sym (t .selects)))),
+          λ ss k e f h.
+              let t : Typing l (take (c .next) p) (c .line) = d .2 h in
+              let here : fitted u (c .line .selected) ≡ true → s ≡ getD ss (c .line .selected) (fresh 255) =
+              λ fit. let q : k ≡ c .line .selected = f (rw (t .selects) at fit) ∙ sym (t .selects) in rw q at e in
+              let room = ended-room (rackIs ss (c .line) u) s z here in
+              rw (ends-with t) (omega (arith, room, length-take (c .line .count) (c .line .kept), t .small, bit-small (c .line .spoiled))),
         )
 
 module _ (u : Setup) (l : Line) (x : Supply) (s b : List ℕ) (at : ℕ) where
@@ -88,20 +104,21 @@ module _ (u : Setup) (l : Line) (x : Supply) (s b : List ℕ) (at : ℕ) where
     within : r .used ≡ used → r .used ≤ length s
     within e = omega (arith, e, all, header-good s good .0)
 
-    serial-gone : (b′ : List ℕ) → tagOf s ≡ 1 → r .used ≡ used → SerialMoves u l x p r b at b′ → Goes u l x s r b at b′
+    serial-gone : (b′ : List ℕ) → tagOf s ≡ 1 → r .used ≡ used → SerialMoves u l x p r b at b′ → SerialRoom u l x p → Goes u l x s r b at b′
     unfolding callOf parse
-    serial-gone b′ t e m ss k there reach h =
+    serial-gone b′ t e m short ss k there reach h =
         let go = m ss k there (reach .by-line t) h in
         record {
           said = replies plainSupply u ss (scanned (rackIs ss l u) p .sent);
           small = go .small;
           call-is = rw (read-serial (fitted u) s good t, ← is, ← all, ← e, go .view) refl;
           put = go .said;
+          room = short ss k there (reach .by-line t) h;
         }
 
     pub serial-takes : (b′ : List ℕ) → tagOf s ≡ 1 → SerialDoes u l x p used r b at b′ → TakesDo u l x s r b at b′
     serial-takes b′ t (inl d) = not-taken r b′ d
-    serial-takes b′ t (inr d) = (within (d .0), inr (serial-gone b′ t (d .0) (d .1)))
+    serial-takes b′ t (inr d) = (within (d .0), inr (serial-gone b′ t (d .0) (d .1) (d .2)))
 
     event-gone : (tagOf s ≡ 1 → ⊥) → EventTaken u l x (tagOf s) p used at r → Goes u l x s r b at b
     event-gone t d ss k there reach h =
@@ -110,7 +127,7 @@ module _ (u : Setup) (l : Line) (x : Supply) (s b : List ℕ) (at : ℕ) where
         let here : x ≡ getD ss (getD p 0 0) (fresh 255) = rw ek at there in
         let call-is = event-call good t ss (rw is at (d .is-there)) (rw is at (d .is-good)) in
         subst (λ (q : Step). Gone u l ss k s q b at b) (sym (d .is))
-        (record { said = []; small = h; call-is = rw (ek, here, is, all) call-is; put = put-none b at })
+        (record { said = []; small = h; call-is = rw (ek, here, is, all) call-is; put = put-none b at; room = omega arith })
 
     pub event-takes : (tagOf s ≡ 1 → ⊥) → EventDoes u l x (tagOf s) p used at r → TakesDo u l x s r b at b
     event-takes t (inl d) = not-taken r b (d, refl)

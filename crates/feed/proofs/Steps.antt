@@ -6,9 +6,9 @@ use mathlib.Core.Bool.{true}
 use mathlib.Core.List.{List, [], _∷_, _++_}
 use native.Mathlib.Omega.{arith}
 use native.Mathlib.Nat.{add-zero}
-use lib.ListN.{length, getD, set, drop}
+use lib.ListN.{length, getD, set, drop, length-append}
 use lib.Seq.{set-getD}
-use Rattle.base.proofs.Put.{put-none, put-then}
+use Rattle.base.proofs.Put.{put-none, put-then, put-whole, put-length}
 use Rattle.wire.specs.declared.Setup.{Setup}
 use Rattle.wire.specs.Wire.{fitted}
 use Rattle.supply.specs.declared.Supply.{Supply}
@@ -24,26 +24,34 @@ use Rattle.feed.specs.Feed.{none, more, FeedDoes, Untaken, Reaches, Goes
 abbrev pub fedAs : List Supply → Line → Setup → ℕ → ℕ → Fed
 fedAs ss l u used next = record { rack = rackIs ss l u; used = used; next = next }
 
-pub fed-none : (ss : List Supply) (l : Line) (u : Setup) (s b : List ℕ) (at : ℕ) → l .count ≤ 64 → FeedDoes (rackIs ss l u) s b at (fedAs ss l u 0 at) b
-fed-none ss l u s b at h = record { said = []; small = h; works = none; put = put-none b at }
+pub fed-none : (ss : List Supply) (l : Line) (u : Setup) (s b : List ℕ) (at full : ℕ) → l .count ≤ 64 → FeedDoes (rackIs ss l u) s b at full (fedAs ss l u 0 at) b
+fed-none ss l u s b at full h = record { said = []; small = h; works = none; put = put-none b at; whole = λ i j. omega arith }
 
-module _ (r : Rack) (s b : List ℕ) (at : ℕ) (ss : List Supply) (l : Line) (u : Setup) (used next : ℕ) (b′ : List ℕ) (f : FeedDoes r s b at (fedAs ss l u used next) b′) (x : Supply) (k : ℕ) (there : x ≡ getD ss k (fresh 255)) (b″ : List ℕ) (st : Step) where
-  untaken-more : Untaken l x st b′ next b″ → FeedDoes r s b at (fedAs (set ss k (st .supply)) (st .line) u (used + st .used) (st .next)) b″
+module _ (r : Rack) (s b : List ℕ) (at full : ℕ) (ss : List Supply) (l : Line) (u : Setup) (used next : ℕ) (b′ : List ℕ) (f : FeedDoes r s b at full (fedAs ss l u used next) b′) (x : Supply) (k : ℕ) (there : x ≡ getD ss k (fresh 255)) (b″ : List ℕ) (st : Step) where
+  untaken-more : Untaken l x st b′ next b″ → FeedDoes r s b at full (fedAs (set ss k (st .supply)) (st .line) u (used + st .used) (st .next)) b″
   untaken-more t =
       let same : set ss k x ≡ ss = rw there (set-getD ss k (fresh 255)) in
       rw (t .0, t .1, same, add-zero) f
 
-  taken-more : Reaches u l (drop used s) k → Goes u l x (drop used s) st b′ next b″ → FeedDoes r s b at (fedAs (set ss k (st .supply)) (st .line) u (used + st .used) (st .next)) b″
-  taken-more reach g =
+  taken-more : (at ≤ full → next ≤ full) → Reaches u l (drop used s) k → Goes u l x (drop used s) st b′ next b″ → FeedDoes r s b at full (fedAs (set ss k (st .supply)) (st .line) u (used + st .used) (st .next)) b″
+  taken-more low reach g =
       let gone = g ss k there reach (f .small) in
-      record { said = f .said ++ gone .said; small = gone .small; works = more _ _ used (st .used) (f .said) (gone .said) (f .works) (gone .call-is); put = put-then (f .put) (gone .put) }
+      record {
+        said = f .said ++ gone .said;
+        small = gone .small;
+        works = more _ _ used (st .used) (f .said) (gone .said) (f .works) (gone .call-is);
+        put = put-then (f .put) (gone .put);
+        whole = λ i j.
+            let all : st .next ≡ next + length (gone .said) = put-whole (gone .put) (omega (arith, low i, j, gone .room, put-length (f .put))) .0 in
+            omega (arith, all, f .whole i j, length-append (f .said) (gone .said));
+      }
 
-  pub fed-more : Reaches u l (drop used s) k → TakesDo u l x (drop used s) st b′ next b″ → FeedDoes r s b at (fedAs (set ss k (st .supply)) (st .line) u (used + st .used) (st .next)) b″
-  fed-more reach d = byTaken (d .1)
+  pub fed-more : (at ≤ full → next ≤ full) → Reaches u l (drop used s) k → TakesDo u l x (drop used s) st b′ next b″ → FeedDoes r s b at full (fedAs (set ss k (st .supply)) (st .line) u (used + st .used) (st .next)) b″
+  fed-more low reach d = byTaken (d .1)
     where
-      byTaken : Untaken l x st b′ next b″ ⊎ Goes u l x (drop used s) st b′ next b″ → FeedDoes r s b at (fedAs (set ss k (st .supply)) (st .line) u (used + st .used) (st .next)) b″
+      byTaken : Untaken l x st b′ next b″ ⊎ Goes u l x (drop used s) st b′ next b″ → FeedDoes r s b at full (fedAs (set ss k (st .supply)) (st .line) u (used + st .used) (st .next)) b″
       byTaken (inl t) = untaken-more t
-      byTaken (inr g) = taken-more reach g
+      byTaken (inr g) = taken-more low reach g
 
 -- the slot reached, by the tag
 module _ (u : Setup) (l : Line) (s : List ℕ) (k : ℕ) where

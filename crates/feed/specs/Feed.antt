@@ -8,7 +8,7 @@ use lib.ListN.{length, getD, set, take, drop}
 use Rattle.base.specs.Put.{Put}
 use Rattle.wire.specs.declared.Setup.{Setup}
 use Rattle.wire.specs.Wire.{Grammar, Call, byte, modelAt, fitted, quiet, scan}
-use Rattle.wire.specs.Rack.{done, callOf}
+use Rattle.wire.specs.Rack.{done, callOf, replies}
 use Rattle.wire.specs.Rack as wire
 use Rattle.supply.specs.declared.Supply.{Supply}
 use Rattle.supply.specs.State.{fresh}
@@ -32,12 +32,14 @@ pub data Works (v : wire.Rack Supply) (s : List ℕ) : wire.Rack Supply → ℕ 
   none : Works v s v 0 []
   more : (q r : wire.Rack Supply) (used n : ℕ) (t x : List ℕ) → Works v s q used t → callOf plainSupply q (fieldAt (drop used s)) ≡ done r n x → Works v s r (used + n) (t ++ x)
 
--- the rack, the bytes used, and the replies from index at of the buffer on, as far as there is room for them
-pub record FeedDoes (r : Rack) (s b : List ℕ) (at : ℕ) (f : Fed) (b′ : List ℕ) : Type 0 where
+-- the rack, the bytes used, and the replies from index at of the buffer on, as far as there is room for them; there is room for
+-- all of them where full leaves room for one field's replies
+pub record FeedDoes (r : Rack) (s b : List ℕ) (at full : ℕ) (f : Fed) (b′ : List ℕ) : Type 0 where
   pub said : List ℕ
   pub small : f .rack .line .count ≤ 64
   pub works : Works (viewOf r) s (viewOf (f .rack)) (f .used) said
   pub put : Put b at said (f .next) b′
+  pub whole : at ≤ full → full + leastReply ≤ length b → f .next ≡ at + length said
 
 -- characters alone: no line ends, and the same slot stays selected
 pub record Typing (l : Line) (xs : List ℕ) (r : Line) : Type 0 where
@@ -59,8 +61,14 @@ SerialMoves u l s p r b at b′ =
     (ss : List Supply) (k : ℕ) → s ≡ getD ss k (fresh 255) → (fitted u (l .selected) ≡ true → k ≡ l .selected) → l .count ≤ 64
     → Moves (rackIs ss l u) (scanned (rackIs ss l u) p) (rackIs (set ss k (r .supply)) (r .line) u) b at (r .next) b′
 
+-- and what they say is short
+abbrev pub SerialRoom : Setup → Line → Supply → List ℕ → Type 0
+SerialRoom u l s p =
+    (ss : List Supply) (k : ℕ) → s ≡ getD ss k (fresh 255) → (fitted u (l .selected) ≡ true → k ≡ l .selected) → l .count ≤ 64
+    → length (replies plainSupply u ss (scanned (rackIs ss l u) p .sent)) ≤ leastReply
+
 abbrev pub SerialDoes : Setup → Line → Supply → List ℕ → ℕ → Step → List ℕ → ℕ → List ℕ → Type 0
-SerialDoes u l s p used r b at b′ = Untaken l s r b at b′ ⊎ ((r .used ≡ used) × SerialMoves u l s p r b at b′)
+SerialDoes u l s p used r b at b′ = Untaken l s r b at b′ ⊎ ((r .used ≡ used) × SerialMoves u l s p r b at b′ × SerialRoom u l s p)
 
 -- a field of tags 2 to 5 with this payload, where its address has the supply s: the supply does what the field asks
 pub record EventTaken (u : Setup) (l : Line) (s : Supply) (tag : ℕ) (p : List ℕ) (used at : ℕ) (r : Step) : Type 0 where
@@ -82,6 +90,7 @@ pub record Gone (u : Setup) (l : Line) (ss : List Supply) (k : ℕ) (s : List �
   pub small : r .line .count ≤ 64
   pub call-is : callOf plainSupply (viewOf (rackIs ss l u)) (fieldAt s) ≡ done (viewOf (rackIs (set ss k (r .supply)) (r .line) u)) (r .used) said
   pub put : Put b at said (r .next) b′
+  pub room : length said ≤ leastReply
 
 abbrev pub Goes : Setup → Line → Supply → List ℕ → Step → List ℕ → ℕ → List ℕ → Type 0
 Goes u l x s r b at b′ = (ss : List Supply) (k : ℕ) → x ≡ getD ss k (fresh 255) → Reaches u l s k → l .count ≤ 64 → Gone u l ss k s r b at b′

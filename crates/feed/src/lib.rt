@@ -77,6 +77,7 @@ fn take_serial(
 ) -> Step
     ensures { λ r. ⌜ SerialDoes u l s (now (p .entry)) used r (now (buf .entry)) at (now (buf .exit)) ⌝ }
 {
+    let known = slots::measured(s);
     let typed = take_chars(l, p);
     let line = typed.line;
     let n = typed.next;
@@ -91,7 +92,7 @@ fn take_serial(
     if n + 1 < p.len() {
         return untaken(l, s, at);
     }
-    let e = slots::end_one(u, line, s, buf, at);
+    let e = slots::end_one(u, line, known, buf, at);
     if e.all {
         return untaken(l, s, at);
     }
@@ -168,7 +169,7 @@ fn slot_reached(u: Setup, l: Line, b: &[u8]) -> usize
 
 // Takes fields until one is not taken, or their replies, which begin at index `at` of the buffer, reach the index `full`.
 pub fn feed(r: Rack, s: &[u8], out: &mut [u8], at: usize, full: usize) -> Fed
-    ensures { λ f. ⌜ (r .line .count ≤ 64 → FeedDoes r (now (s .entry)) (now (out .entry)) at f (now (out .exit))) ⌝ }
+    ensures { λ f. ⌜ (r .line .count ≤ 64 → FeedDoes r (now (s .entry)) (now (out .entry)) at full f (now (out .exit))) ⌝ }
 {
     let setup = r.setup;
     let mut slots = r.slots;

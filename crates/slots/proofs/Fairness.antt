@@ -44,7 +44,7 @@ line-room : (m : ℕ) (s : Supply) → Sized s → (kept : List ℕ) (spoiled : 
 line-room m s z kept true = omega (arith, room m s z kept .spoiled)
 line-room m s z kept false = omega (arith, room m s z kept .fair)
 
-module _ (r : Rack) (s : Supply) (z : Sized s) (here : s ≡ getD (r .slots) (r .line .selected) (fresh 255)) where
+module _ (r : Rack) (s : Supply) (z : Sized s) (here : fitted (r .setup) (r .line .selected) ≡ true → s ≡ getD (r .slots) (r .line .selected) (fresh 255)) where
   abbrev w : Wire
   w = wireOf (r .line)
 
@@ -63,17 +63,21 @@ module _ (r : Rack) (s : Supply) (z : Sized s) (here : s ≡ getD (r .slots) (r 
       byFit true = rw append-nil (rw (classes (w .kept) (w .spoiled) .faulty-reply t (sym e) 0 s) (line-room 0 s z (w .kept) (w .spoiled)))
       byFit false = omega arith
   by-class global e = omega arith
-  by-class other e = byFit (fitted (r .setup) (w .sel))
+  by-class other e = byFit (fitted (r .setup) (w .sel)) refl
     where
-      byFit : (f : Bool) → length (replies plainSupply (r .setup) (r .slots) (given f (one (w .sel) (line (w .kept) (w .spoiled))))) ≤ 3 * length (w .kept) + bit (w .spoiled) + 3
-      byFit true = rw (append-nil, ← here) (line-room (modelAt (r .setup) (w .sel)) s z (w .kept) (w .spoiled))
-      byFit false = omega arith
+      byFit : (f : Bool) → fitted (r .setup) (w .sel) ≡ f → length (replies plainSupply (r .setup) (r .slots) (given f (one (w .sel) (line (w .kept) (w .spoiled))))) ≤ 3 * length (w .kept) + bit (w .spoiled) + 3
+      byFit true f = rw (append-nil, ← here f) (line-room (modelAt (r .setup) (w .sel)) s z (w .kept) (w .spoiled))
+      byFit false f = omega arith
 
   class-wire : (c : Class) → (byClass (r .setup) w c .wire .kept ≡ []) × (byClass (r .setup) w c .wire .spoiled ≡ false)
   class-wire (select a t) = (refl, refl)
   class-wire (faulty t) = (refl, refl)
   class-wire global = (refl, refl)
   class-wire other = (refl, refl)
+
+  -- a line's end draws little
+  pub ended-room : length (replies plainSupply (r .setup) (r .slots) (endedBy r .sent)) ≤ 3 * length (w .kept) + bit (w .spoiled) + 3
+  ended-room = by-class (classOf (w .kept) (w .spoiled)) refl
 
   -- a line's end
   pub ended-fair : Fair r (endedBy r) 1

@@ -42,7 +42,7 @@ pub struct Ended {
 }
 
 // A supply of the code has its figures within their widths; this says so of one.
-fn measured(s: Supply) -> Supply
+pub fn measured(s: Supply) -> Supply
     ensures { λ r. ⌜ (r ≡ s) × Sized s ⌝ }
 {
     s

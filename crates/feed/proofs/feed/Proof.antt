@@ -6,7 +6,7 @@ use Prim.Native.Nat.{_≤_, _+_, _-_}
 use lib.ListN.{length, length-drop, length-map, length-set}
 use denote.Ref.{now}
 use lib.Dec.{ltb}
-use mathlib.Core.Bool.{_&&_}
+use mathlib.Core.Bool.{true, _&&_}
 use borrow.Author.Tests.{ltb-true}
 use Rattle.base.specs.Choice.{bit}
 use Rattle.base.proofs.Choice.{and-both}
@@ -26,14 +26,14 @@ use Rattle.feed.proofs.take_field.Reads as take-field-reads
 
 abbrev Inv-loop : tie.InvT-loop
 Inv-loop s out₀ at full setup slots₀ line₀ used₀ next₀ going₀ out slots line used next going =
-    (used ≤ length s) × (length out ≡ length out₀) × (length slots ≡ 31) × (line₀ .count ≤ 64 → FeedDoes (rackIs slots₀ line₀ setup) s out₀ next₀ (fedAs slots line setup used next) out)
+    (used ≤ length s) × (length out ≡ length out₀) × (length slots ≡ 31) × (line₀ .count ≤ 64 → FeedDoes (rackIs slots₀ line₀ setup) s out₀ at full (fedAs slots line setup used next) out) × (at ≤ full → going ≡ true → next ≤ full)
 
 abbrev μ-loop : tie.MeasureT-loop
 μ-loop s out₀ at full setup slots₀ line₀ used₀ next₀ going₀ out slots line used next going = length s - used + bit going
 
 -- src/lib.rt:175:5
 loop-holds : tie.Need-loop-holds Inv-loop μ-loop
-loop-holds c = (search needs, refl, simp length-map at (c .before .before .before .before .before .good .0 .1 .1 .0 .1 .0 .1), λ h. fed-none _ _ _ _ _ _ h)
+loop-holds c = (search needs, refl, simp length-map at (c .before .before .before .before .before .good .0 .1 .1 .0 .1 .0 .1), λ h. fed-none _ _ _ _ _ _ _ h, λ i t. i)
 
 -- src/lib.rt:176:13
 part-from-requires : tie.Need-part-from-requires Inv-loop μ-loop
@@ -92,10 +92,12 @@ loop-again c =
       search needs,
       length-set (l .loop .slots) _ _ ∙ l .loop .inv .2,
       λ h.
-          fed-more (rackIs (z .r .slots) (z .r .line) (z .r .setup)) s (now (z .out)) (z .at) (l .loop .slots) (l .loop .line) (z .r .setup) (l .loop .used) (l .loop .next) (l .loop .out) (l .loop .inv .3 h) _ (c .before .before .before .before .before .before .before .before .before .before .slot-reached .result)
+          fed-more (rackIs (z .r .slots) (z .r .line) (z .r .setup)) s (now (z .out)) (z .at) (z .full) (l .loop .slots) (l .loop .line) (z .r .setup) (l .loop .used) (l .loop .next) (l .loop .out) (l .loop .inv .3 h) _ (c .before .before .before .before .before .before .before .before .before .before .slot-reached .result)
           (getD-any (l .loop .slots) (c .before .before .before .before .before .before .before .before .before .before .slot-reached .result) _ (fresh 255) (omega (arith, l .loop .inv .2, c .before .before .before .before .before .before .before .before .before .before .slot-reached .ensures .0))) _ (c .before .before .before .before .before .before .before .take-field .result)
+          (λ i. l .loop .inv .4 i (c .before .before .before .before .before .before .before .before .before .before .before .before .loop-test .taken))
           (rw from at (c .before .before .before .before .before .before .before .before .before .before .slot-reached .ensures .1))
           (rw from at (c .before .before .before .before .before .before .before .take-field .ensures)),
+      λ i t. let less = ltb-true (c .before .before .before .before .before .before .before .take-field .result .next) (z .full) (and-both (ltb 0 (c .before .before .before .before .before .before .before .take-field .result .used)) (ltb (c .before .before .before .before .before .before .before .take-field .result .next) (z .full)) t .1) in omega (arith, less),
     )
 
 -- src/lib.rt:166:1

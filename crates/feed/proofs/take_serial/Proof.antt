@@ -10,7 +10,11 @@ use Rattle.feed.proofs.take_serial.Reads as reads
 use Rattle.feed.proofs.take_serial.Lts as lts
 use Rattle.feed.proofs.take_chars.Reads as take-chars-reads
 use Rattle.feed.proofs.untaken.Reads as untaken-reads
+use Rattle.slots.proofs.measured.Reads as measured-reads
 use Rattle.slots.proofs.end_one.Reads as end-one-reads
+
+measured-requires : tie.Need-measured-requires
+measured-requires c κs = search needs
 
 -- src/lib.rt:83:9
 take-chars-requires : tie.Need-take-chars-requires
@@ -19,7 +23,7 @@ take-chars-requires c κs = search needs
 -- src/lib.rt:87:9
 returns : tie.Need-returns
 returns c =
-    let z = c .before .before .before .before .before .args in
+    let z = c .before .before .before .before .before .before .args in
     no-line (z .u) (z .l) (z .s) (now (z .p)) (z .used) (now (z .buf)) (z .at) (c .before .before .take-chars .result) (c .before .before .take-chars .ensures) (c .if1 .taken)
 
 -- src/lib.rt:94:8
@@ -57,13 +61,14 @@ same-length-2 c = search needs
 -- src/lib.rt:72:1
 returns-4 : tie.Need-returns-4
 returns-4 c =
-    let z = c .before .before .before .before .before .before .before .before .before .before .before .before .before .args in
-    one-line (z .u) (z .l) (z .s) (now (z .p)) (z .used) (now (z .buf)) (z .at) (c .before .before .before .before .before .before .before .before .before .before .take-chars .result) (c .before .before .before .before .before .before .before .before .before .before .take-chars .ensures) (c .before .before .before .before .before .before .before .before .if1 .left) (c .before .before .before .before .before .before .before .if2 .left) (c .before .before .before .before .before .end-one .result) _ (c .before .before .before .before .before .end-one .ensures .0 (c .before .before .if3 .left))
+    let z = c .before .before .before .before .before .before .before .before .before .before .before .before .before .before .args in
+    one-line (z .u) (z .l) (z .s) (now (z .p)) (z .used) (now (z .buf)) (z .at) (c .before .before .before .before .before .before .before .before .before .before .take-chars .result) (c .before .before .before .before .before .before .before .before .before .before .take-chars .ensures) (c .before .before .before .before .before .before .before .before .if1 .left) (c .before .before .before .before .before .before .before .if2 .left) (c .before .before .before .before .before .end-one .result) _ (c .before .before .before .before .before .before .before .before .before .before .before .measured .ensures .1) (rw (c .before .before .before .before .before .before .before .before .before .before .before .measured .ensures .0) at (c .before .before .before .before .before .end-one .ensures .0 (c .before .before .if3 .left)))
 
 pub take-serial-spec : {M : Type 1} → statement M
 take-serial-spec =
     tie.close
     (tie.spec
+    measured-requires
     take-chars-requires
     returns
     add-if2

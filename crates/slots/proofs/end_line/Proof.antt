@@ -43,7 +43,7 @@ returns : tie.Need-returns
 returns c =
     let z = c .before .before .before .before .before .before .before .before .before .before .before .before .args in
     let g = c .before .before .before .before .end-one .ensures .1 (c .before .if1 .taken) in
-    (rw (g .1) (told-class (z .r) (c .tell-all .result) _ (now (z .buf)) (z .at) (g .0) (c .tell-all .ensures)), ended-fair (z .r) (c .before .before .before .before .before .before .before .slot-at .result) (c .before .before .before .before .before .before .measured .ensures .1) (c .before .before .before .before .before .before .before .slot-at .ensures))
+    (rw (g .1) (told-class (z .r) (c .tell-all .result) _ (now (z .buf)) (z .at) (g .0) (c .tell-all .ensures)), ended-fair (z .r) (c .before .before .before .before .before .before .before .slot-at .result) (c .before .before .before .before .before .before .measured .ensures .1) (λ f. c .before .before .before .before .before .before .before .slot-at .ensures))
 
 -- src/lib.rt:203:1
 same-length-2 : tie.Need-same-length-2
@@ -53,7 +53,7 @@ same-length-2 c = search needs
 returns-2 : tie.Need-returns-2
 returns-2 c =
     let z = c .before .before .before .before .before .before .before .before .before .before .before .before .args in
-    (rw (c .put-back .ensures) (c .before .before .before .before .end-one .ensures .0 (c .before .if1 .left) (z .r .slots) (z .r .line .selected) (c .before .before .before .before .before .before .measured .ensures .0 ∙ c .before .before .before .before .before .before .before .slot-at .ensures) (λ f. refl)), ended-fair (z .r) (c .before .before .before .before .before .before .before .slot-at .result) (c .before .before .before .before .before .before .measured .ensures .1) (c .before .before .before .before .before .before .before .slot-at .ensures))
+    (rw (c .put-back .ensures) (c .before .before .before .before .end-one .ensures .0 (c .before .if1 .left) (z .r .slots) (z .r .line .selected) (c .before .before .before .before .before .before .measured .ensures .0 ∙ c .before .before .before .before .before .before .before .slot-at .ensures) (λ f. refl)), ended-fair (z .r) (c .before .before .before .before .before .before .before .slot-at .result) (c .before .before .before .before .before .before .measured .ensures .1) (λ f. c .before .before .before .before .before .before .before .slot-at .ensures))
 
 pub end-line-spec : {M : Type 1} → statement M
 end-line-spec =
