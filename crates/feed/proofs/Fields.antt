@@ -31,7 +31,7 @@ use Rattle.slots.proofs.Fairness.{ended-room}
 use Rattle.protocol.specs.SentBack.{Sized}
 use Rattle.feed.specs.declared.Typed.{Typed}
 use Rattle.feed.specs.declared.Step.{Step}
-use Rattle.feed.specs.Feed.{fieldAt, Typing, CharsDo, Untaken, SerialMoves, SerialRoom, SerialDoes, EventTaken, EventDoes, Reaches, Gone, Goes, TakesDo}
+use Rattle.feed.specs.Feed.{fieldAt, Typing, CharsDo, Untaken, SerialMoves, SerialRoom, SerialDoes, EventTaken, EventDoes, Reaches, AcceptedIn, AcceptedAnywhere, TakesDo}
 
 bit-small : (t : Bool) → bit t ≤ 1
 bit-small true = omega arith
@@ -104,9 +104,9 @@ module _ (u : Setup) (l : Line) (x : Supply) (s b : List ℕ) (at : ℕ) where
     within : r .used ≡ used → r .used ≤ length s
     within e = omega (arith, e, all, header-good s good .0)
 
-    serial-gone : (b′ : List ℕ) → tagOf s ≡ 1 → r .used ≡ used → SerialMoves u l x p r b at b′ → SerialRoom u l x p → Goes u l x s r b at b′
+    serial-accepted : (b′ : List ℕ) → tagOf s ≡ 1 → r .used ≡ used → SerialMoves u l x p r b at b′ → SerialRoom u l x p → AcceptedAnywhere u l x s r b at b′
     unfolding callOf parse
-    serial-gone b′ t e m short ss k there reach h =
+    serial-accepted b′ t e m short ss k there reach h =
         let go = m ss k there (reach .by-line t) h in
         record {
           said = replies plainSupply u ss (scanned (rackIs ss l u) p .sent);
@@ -118,17 +118,17 @@ module _ (u : Setup) (l : Line) (x : Supply) (s b : List ℕ) (at : ℕ) where
 
     pub serial-takes : (b′ : List ℕ) → tagOf s ≡ 1 → SerialDoes u l x p used r b at b′ → TakesDo u l x s r b at b′
     serial-takes b′ t (inl d) = not-taken r b′ d
-    serial-takes b′ t (inr d) = (within (d .0), inr (serial-gone b′ t (d .0) (d .1) (d .2)))
+    serial-takes b′ t (inr d) = (within (d .0), inr (serial-accepted b′ t (d .0) (d .1) (d .2)))
 
-    event-gone : (tagOf s ≡ 1 → ⊥) → EventTaken u l x (tagOf s) p used at r → Goes u l x s r b at b
-    event-gone t d ss k there reach h =
+    event-accepted : (tagOf s ≡ 1 → ⊥) → EventTaken u l x (tagOf s) p used at r → AcceptedAnywhere u l x s r b at b
+    event-accepted t d ss k there reach h =
         let a : getD p 0 0 ≡ getD s 3 0 = ap (λ (q : List ℕ). getD q 0 0) is ∙ address-byte s good t in
         let ek : k ≡ getD p 0 0 = reach .by-name t (rw a at (d .is-there)) ∙ sym a in
         let here : x ≡ getD ss (getD p 0 0) (fresh 255) = rw ek at there in
         let call-is = event-call good t ss (rw is at (d .is-there)) (rw is at (d .is-good)) in
-        subst (λ (q : Step). Gone u l ss k s q b at b) (sym (d .is))
+        subst (λ (q : Step). AcceptedIn u l ss k s q b at b) (sym (d .is))
         (record { said = []; small = h; call-is = rw (ek, here, is, all) call-is; put = put-none b at; room = omega arith })
 
     pub event-takes : (tagOf s ≡ 1 → ⊥) → EventDoes u l x (tagOf s) p used at r → TakesDo u l x s r b at b
     event-takes t (inl d) = not-taken r b (d, refl)
-    event-takes t (inr d) = (within (ap (λ (q : Step). q .used) (d .is)), inr (event-gone t d))
+    event-takes t (inr d) = (within (ap (λ (q : Step). q .used) (d .is)), inr (event-accepted t d))

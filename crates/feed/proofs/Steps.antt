@@ -19,7 +19,7 @@ use Rattle.slots.specs.declared.Rack.{Rack}
 use Rattle.slots.specs.View.{viewOf, rackIs}
 use Rattle.feed.specs.declared.Step.{Step}
 use Rattle.feed.specs.declared.Fed.{Fed}
-use Rattle.feed.specs.Feed.{none, more, FeedDoes, Untaken, Reaches, Goes, TakesDo}
+use Rattle.feed.specs.Feed.{none, more, FeedDoes, Untaken, Reaches, AcceptedAnywhere, TakesDo}
 
 abbrev pub fedAs : List Supply → Line → Setup → ℕ → ℕ → Fed
 fedAs ss l u used next = record { rack = rackIs ss l u; used = used; next = next }
@@ -33,7 +33,7 @@ module _ (r : Rack) (s b : List ℕ) (at full : ℕ) (ss : List Supply) (l : Lin
       let same : set ss k x ≡ ss = rw there (set-getD ss k (fresh 255)) in
       rw (t .0, t .1, same, add-zero) f
 
-  taken-more : (at ≤ full → next ≤ full) → Reaches u l (drop used s) k → Goes u l x (drop used s) st b′ next b″ → FeedDoes r s b at full (fedAs (set ss k (st .supply)) (st .line) u (used + st .used) (st .next)) b″
+  taken-more : (at ≤ full → next ≤ full) → Reaches u l (drop used s) k → AcceptedAnywhere u l x (drop used s) st b′ next b″ → FeedDoes r s b at full (fedAs (set ss k (st .supply)) (st .line) u (used + st .used) (st .next)) b″
   taken-more low reach g =
       let gone = g ss k there reach (f .small) in
       record {
@@ -49,7 +49,7 @@ module _ (r : Rack) (s b : List ℕ) (at full : ℕ) (ss : List Supply) (l : Lin
   pub fed-more : (at ≤ full → next ≤ full) → Reaches u l (drop used s) k → TakesDo u l x (drop used s) st b′ next b″ → FeedDoes r s b at full (fedAs (set ss k (st .supply)) (st .line) u (used + st .used) (st .next)) b″
   fed-more low reach d = byTaken (d .1)
     where
-      byTaken : Untaken l x st b′ next b″ ⊎ Goes u l x (drop used s) st b′ next b″ → FeedDoes r s b at full (fedAs (set ss k (st .supply)) (st .line) u (used + st .used) (st .next)) b″
+      byTaken : Untaken l x st b′ next b″ ⊎ AcceptedAnywhere u l x (drop used s) st b′ next b″ → FeedDoes r s b at full (fedAs (set ss k (st .supply)) (st .line) u (used + st .used) (st .next)) b″
       byTaken (inl t) = untaken-more t
       byTaken (inr g) = taken-more low reach g
 

@@ -32,6 +32,11 @@ pub data Works (v : wire.Rack Supply) (s : List ℕ) : wire.Rack Supply → ℕ 
   none : Works v s v 0 []
   more : (q r : wire.Rack Supply) (used n : ℕ) (t x : List ℕ) → Works v s q used t → callOf plainSupply q (fieldAt (drop used s)) ≡ done r n x → Works v s r (used + n) (t ++ x)
 
+-- the calls that they are
+abbrev pub fieldsOf : {v : wire.Rack Supply} {s : List ℕ} {q : wire.Rack Supply} {used : ℕ} {t : List ℕ} → Works v s q used t → List Call
+fieldsOf none = []
+fieldsOf {s = s} (more q r used n t x w e) = fieldsOf w ++ fieldAt (drop used s) ∷ []
+
 -- the rack, the bytes used, and the replies from index at of the buffer on, as far as there is room for them; there is room for
 -- all of them where full leaves room for one field's replies
 pub record FeedDoes (r : Rack) (s b : List ℕ) (at full : ℕ) (f : Fed) (b′ : List ℕ) : Type 0 where
@@ -85,15 +90,15 @@ pub record Reaches (u : Setup) (l : Line) (s : List ℕ) (k : ℕ) : Type 0 wher
   pub by-name : (tagOf s ≡ 1 → ⊥) → fitted u (getD s 3 0) ≡ true → k ≡ getD s 3 0
 
 -- a field that is taken is a call that is accepted
-pub record Gone (u : Setup) (l : Line) (ss : List Supply) (k : ℕ) (s : List ℕ) (r : Step) (b : List ℕ) (at : ℕ) (b′ : List ℕ) : Type 0 where
+pub record AcceptedIn (u : Setup) (l : Line) (ss : List Supply) (k : ℕ) (s : List ℕ) (r : Step) (b : List ℕ) (at : ℕ) (b′ : List ℕ) : Type 0 where
   pub said : List ℕ
   pub small : r .line .count ≤ 64
   pub call-is : callOf plainSupply (viewOf (rackIs ss l u)) (fieldAt s) ≡ done (viewOf (rackIs (set ss k (r .supply)) (r .line) u)) (r .used) said
   pub put : Put b at said (r .next) b′
   pub room : length said ≤ leastReply
 
-abbrev pub Goes : Setup → Line → Supply → List ℕ → Step → List ℕ → ℕ → List ℕ → Type 0
-Goes u l x s r b at b′ = (ss : List Supply) (k : ℕ) → x ≡ getD ss k (fresh 255) → Reaches u l s k → l .count ≤ 64 → Gone u l ss k s r b at b′
+abbrev pub AcceptedAnywhere : Setup → Line → Supply → List ℕ → Step → List ℕ → ℕ → List ℕ → Type 0
+AcceptedAnywhere u l x s r b at b′ = (ss : List Supply) (k : ℕ) → x ≡ getD ss k (fresh 255) → Reaches u l s k → l .count ≤ 64 → AcceptedIn u l ss k s r b at b′
 
 abbrev pub TakesDo : Setup → Line → Supply → List ℕ → Step → List ℕ → ℕ → List ℕ → Type 0
-TakesDo u l x s r b at b′ = (r .used ≤ length s) × (Untaken l x r b at b′ ⊎ Goes u l x s r b at b′)
+TakesDo u l x s r b at b′ = (r .used ≤ length s) × (Untaken l x r b at b′ ⊎ AcceptedAnywhere u l x s r b at b′)

@@ -22,7 +22,7 @@ use Rattle.rack.specs.Fit.{goodList}
 use Rattle.rack.specs.Demand3.{Leads, Run, setupOf}
 
 -- a record with this view; its line holds the kept characters alone, where the code's array has 64 bytes
-abbrev packed : wire.Rack Supply → Rack
+abbrev pub packed : wire.Rack Supply → Rack
 packed v =
     record {
       slots = v .slots;
@@ -30,7 +30,7 @@ packed v =
       setup = v .setup;
     }
 
-view-is : (v : wire.Rack Supply) → viewOf (packed v) ≡ v
+pub view-is : (v : wire.Rack Supply) → viewOf (packed v) ≡ v
 view-is v = let e = take-all (length (v .wire .kept)) (v .wire .kept) (omega arith) in rw e refl
 
 -- an answer as a call has it, and the buffer that it leaves

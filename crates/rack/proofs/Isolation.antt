@@ -37,7 +37,7 @@ leads-seen (c ∷ cs) r q v s t =
     (subst (λ (y : wire.Rack Supply). Seen (t .answer .rack) (after plainSupply y (callOf plainSupply y call))) (s .is) one))
     (t .rest)
 
-run-seen : (l : List ℕ) (calls : List Call) (r : Rack) → Run l calls r → Seen r (run plainSupply (setupOf l) calls)
+pub run-seen : (l : List ℕ) (calls : List Call) (r : Rack) → Run l calls r → Seen r (run plainSupply (setupOf l) calls)
 run-seen l calls r g =
     let m = g .fits .makes (g .good) .1 in
     leads-seen calls (g .fitting .rack) r _ (record { small = m .small; is = m .fresh-is }) (g .leads)
