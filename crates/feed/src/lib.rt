@@ -1,5 +1,5 @@
 // Field after field of lent bytes, the slots changed where they stand: what calls in turn do, without a copy of the rack for each.
-// A field that is not as simple (a line for all, a second line in one field) is left to `call`, and so is one that is refused.
+// A field that is not as simple (a line for all, a byte behind a line's CR) is left to `call`, and so is one that is refused.
 ghost use mathlib.Core.Path.{_≡_};
 ghost use mathlib.Core.Bool.{true};
 ghost use Prim.Native.Nat.{_≤_, _<_};
@@ -41,6 +41,7 @@ pub fn part_from(s: &[u8], i: usize) -> &[u8]
     if i < n { &s[i..] } else { &s[n..] }
 }
 
+// A field that is left to `call`.
 fn untaken(l: Line, s: Supply, at: usize) -> Step
     ensures { λ r. ⌜ r ≡ record { line = l; supply = s; next = at; used = 0 } ⌝ }
 {
