@@ -1,7 +1,8 @@
-// What every layer cites: bytes placed into a lent buffer. The definitions and laws are in specs/ and proofs/.
+// What every layer cites: bytes placed into a lent buffer, and a part of lent bytes. The definitions and laws are in specs/ and proofs/.
 ghost use mathlib.Core.Path.{_≡_};
 ghost use mathlib.Core.List.{[], _∷_};
 ghost use Prim.Native.Nat.{_<_};
+ghost use lib.ListN.{drop};
 ghost use Rattle.base.specs.Put.{Put};
 
 // A byte as a wide number: its bound goes with it, so that callers need no fact about the slice it came from.
@@ -34,4 +35,12 @@ pub fn put_text(buf: &mut [u8], at: usize, s: &[u8]) -> usize
         i += 1;
     }
     p
+}
+
+// The bytes from an index on; none past the end.
+pub fn part_from(s: &[u8], i: usize) -> &[u8]
+    ensures { λ r. ⌜ now r ≡ drop i (now (s .entry)) ⌝ }
+{
+    let n = s.len();
+    if i < n { &s[i..] } else { &s[n..] }
 }

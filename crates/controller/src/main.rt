@@ -89,7 +89,7 @@ fn take_some(r: Rack, s: &[u8], reply: &mut [u8], out: &mut [u8], at: usize) -> 
 {
     let start = next_index(out, at);
     let fed = feed::feed(r, s, out, start, FULL);
-    let rest = feed::part_from(s, fed.used);
+    let rest = base::part_from(s, fed.used);
     let between = fed.rack;
     let a = rack::call(between, rest, reply);
     let then = next_index(out, fed.next);
@@ -119,7 +119,7 @@ fn take_fields(r: Rack, s: &[u8], reply: &mut [u8], out: &mut [u8]) -> Worked {
     while w.more {
         let rack = w.rack;
         let next = w.next;
-        w = take_some(rack, feed::part_from(s, used), reply, out, next);
+        w = take_some(rack, base::part_from(s, used), reply, out, next);
         used += w.used;
     }
     let next = w.next;

@@ -7,8 +7,9 @@ use mathlib.Core.List.{List, [], _∷_, _++_, map, map-append}
 use native.Mathlib.Numerals.{add-one}
 use native.Mathlib.Omega.{arith}
 use lib.ListN.{length, getD, set, take, length-take}
-use lib.Seq.{take-suc, take-all, set-getD}
-use Rattle.base.specs.Choice.{bit}
+use lib.Seq.{take-suc, take-all}
+use Rattle.base.proofs.Lists.{set-same}
+use Rattle.base.proofs.Choice.{bit-small}
 use Rattle.base.specs.Put.{Put}
 use Rattle.base.proofs.Put.{put-none}
 use Rattle.wire.specs.declared.Setup.{Setup}
@@ -33,10 +34,6 @@ use Rattle.feed.specs.declared.Typed.{Typed}
 use Rattle.feed.specs.declared.Step.{Step}
 use Rattle.feed.specs.Feed.{fieldAt, Typing, CharsDo, Untaken, SerialMoves, SerialRoom, SerialDoes, EventTaken, EventDoes, Reaches, AcceptedIn, AcceptedAnywhere, TakesDo}
 
-bit-small : (t : Bool) → bit t ≤ 1
-bit-small true = omega arith
-bit-small false = omega arith
-
 module _ (u : Setup) (l : Line) (s : Supply) (p : List ℕ) (used : ℕ) (b : List ℕ) (at : ℕ) where
   -- characters move nothing but the line
   typed-moves : (ss : List Supply) (r : Line) → r .count ≤ 64 → Moves (rackIs ss l u) (quiet (wireOf r)) (rackIs ss r u) b at at b
@@ -48,8 +45,7 @@ module _ (u : Setup) (l : Line) (s : Supply) (p : List ℕ) (used : ℕ) (b : Li
       inr (
         refl,
         λ ss k e f h.
-            let same : set ss k s ≡ ss = rw e (set-getD ss k (fresh 255)) in
-            rw (all h .scans grammar u, same) (typed-moves ss (c .line) (all h .small)),
+            rw (all h .scans grammar u, set-same ss k s (fresh 255) e) (typed-moves ss (c .line) (all h .small)),
         λ ss k e f h. rw (all h .scans grammar u) (omega arith),
       )
     where

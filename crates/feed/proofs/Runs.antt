@@ -2,7 +2,7 @@
 use Prim.Native.Nat.{ℕ, _≤_}
 use mathlib.Core.Path.{_≡_, refl, sym, ap, subst, _∙_}
 use mathlib.Core.List.{List, [], _∷_, _++_, append-nil, append-assoc}
-use lib.ListN.{length, drop, replicate, length-replicate}
+use lib.ListN.{length, drop}
 use Rattle.wire.specs.Wire.{Call}
 use Rattle.wire.specs.Rack.{done, callOf, after, runFrom, run}
 use Rattle.wire.specs.Rack as wire
@@ -11,11 +11,9 @@ use Rattle.supply.specs.declared.Supply.{Supply}
 use Rattle.plain.specs.Plain.{plainSupply}
 use Rattle.slots.specs.declared.Rack.{Rack}
 use Rattle.slots.specs.View.{viewOf}
-use Rattle.rack.specs.declared.Answer.{Answer}
-use Rattle.rack.specs.Calls.{Answered, callAs}
 use Rattle.rack.specs.Demand3.{Leads, Run, setupOf}
 use Rattle.rack.proofs.Isolation.{run-seen}
-use Rattle.rack.proofs.Existence.{packed, view-is}
+use Rattle.rack.proofs.Existence.{packed, view-is, answerAs, through}
 use Rattle.feed.specs.declared.Fed.{Fed}
 use Rattle.feed.specs.Feed.{fieldAt, Works, none, more, fieldsOf, FeedDoes}
 
@@ -30,19 +28,7 @@ leads-then (c ∷ cs) ds r q p t h =
 
 -- an accepted call leads to a rack with the view that it leaves
 one-call : (m : Rack) (s : List ℕ) (q : wire.Rack Supply) (n : ℕ) (t : List ℕ) → length (q .wire .kept) ≤ 64 → callOf plainSupply (viewOf m) (fieldAt s) ≡ done q n t → Leads m (fieldAt s ∷ []) (packed q)
-one-call m s q n t short e =
-    let b : List ℕ = replicate 512 0 in
-    let a : Answer = record { code = 0; rack = packed q; used = n; length = length t } in
-    let same : callAs s b ≡ fieldAt s = ap (λ (k : ℕ). record { bytes = s; room = k }) (length-replicate {A = ℕ} 512 0) in
-    record {
-      buffer = b;
-      room-is = length-replicate {A = ℕ} 512 0;
-      answer = a;
-      left = t ++ drop (length t) b;
-      does = subst (λ (x : wire.Answer Supply). Answered m b x a (t ++ drop (length t) b)) (sym (ap (callOf plainSupply (viewOf m)) same ∙ e))
-          (λ small. record { code-is = refl; used-is = refl; small = short; rack-is = view-is q; length-is = refl; buffer-is = refl });
-      rest = refl;
-    }
+one-call m s q n t short e = through m (fieldAt s) (λ p. packed q ≡ p) (rw e short) (ap (λ (w : wire.Answer Supply). answerAs m w .rack) (sym e))
 
 -- and so a run is longer by it
 short-after : (l : List ℕ) (cs : List Call) (m : Rack) → Run l cs m → (s : List ℕ) (q : wire.Rack Supply) (n : ℕ) (t : List ℕ) → callOf plainSupply (viewOf m) (fieldAt s) ≡ done q n t → length (q .wire .kept) ≤ 64

@@ -7,7 +7,7 @@ use mathlib.Core.List.{List, [], _∷_, _++_}
 use native.Mathlib.Omega.{arith}
 use native.Mathlib.Nat.{add-zero}
 use lib.ListN.{length, getD, set, drop, length-append}
-use lib.Seq.{set-getD}
+use Rattle.base.proofs.Lists.{set-same}
 use Rattle.base.proofs.Put.{put-none, put-then, put-whole, put-length}
 use Rattle.wire.specs.declared.Setup.{Setup}
 use Rattle.wire.specs.Wire.{fitted}
@@ -30,8 +30,7 @@ fed-none ss l u s b at full h = record { said = []; small = h; works = none; put
 module _ (r : Rack) (s b : List ℕ) (at full : ℕ) (ss : List Supply) (l : Line) (u : Setup) (used next : ℕ) (b′ : List ℕ) (f : FeedDoes r s b at full (fedAs ss l u used next) b′) (x : Supply) (k : ℕ) (there : x ≡ getD ss k (fresh 255)) (b″ : List ℕ) (st : Step) where
   untaken-more : Untaken l x st b′ next b″ → FeedDoes r s b at full (fedAs (set ss k (st .supply)) (st .line) u (used + st .used) (st .next)) b″
   untaken-more t =
-      let same : set ss k x ≡ ss = rw there (set-getD ss k (fresh 255)) in
-      rw (t .0, t .1, same, add-zero) f
+      rw (t .0, t .1, set-same ss k x (fresh 255) there, add-zero) f
 
   taken-more : (at ≤ full → next ≤ full) → Reaches u l (drop used s) k → AcceptedAnywhere u l x (drop used s) st b′ next b″ → FeedDoes r s b at full (fedAs (set ss k (st .supply)) (st .line) u (used + st .used) (st .next)) b″
   taken-more low reach g =

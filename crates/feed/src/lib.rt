@@ -3,7 +3,6 @@
 ghost use mathlib.Core.Path.{_≡_};
 ghost use mathlib.Core.Bool.{true};
 ghost use Prim.Native.Nat.{_≤_, _<_};
-ghost use lib.ListN.{drop};
 ghost use Rattle.wire.specs.Wire.{fitted};
 ghost use Rattle.feed.specs.Feed.{CharsDo, SerialDoes, EventDoes, Reaches, TakesDo, FeedDoes};
 use serial::Line;
@@ -31,14 +30,6 @@ pub struct Fed {
     pub rack: Rack,
     pub used: usize,
     pub next: usize,
-}
-
-// The bytes from an index on; none past the end.
-pub fn part_from(s: &[u8], i: usize) -> &[u8]
-    ensures { λ r. ⌜ now r ≡ drop i (now (s .entry)) ⌝ }
-{
-    let n = s.len();
-    if i < n { &s[i..] } else { &s[n..] }
 }
 
 // A field that is left to `call`.
@@ -179,7 +170,7 @@ pub fn feed(r: Rack, s: &[u8], out: &mut [u8], at: usize, full: usize) -> Fed
     let mut next = at;
     let mut going = true;
     while going {
-        let rest = part_from(s, used);
+        let rest = base::part_from(s, used);
         let k = slot_reached(setup, line, rest);
         let step = take_field(setup, line, slots[k], rest, out, next);
         let supply = step.supply;

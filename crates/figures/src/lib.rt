@@ -77,8 +77,11 @@ pub fn part_before(s: &[u8], p: usize) -> &[u8]
 pub fn part_after(s: &[u8], p: usize) -> &[u8]
     ensures { λ r. ⌜ now r ≡ drop (p + 1) (now (s .entry)) ⌝ }
 {
-    let n = s.len();
-    if p < n { &s[p + 1..] } else { &s[n..] }
+    if p < s.len() {
+        base::part_from(s, p + 1)
+    } else {
+        base::part_from(s, p)
+    }
 }
 
 // 10 to the k-th power.

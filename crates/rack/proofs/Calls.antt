@@ -7,7 +7,7 @@ use native.Mathlib.Omega.{arith}
 use native.Mathlib.Nat.{zero-add}
 use lib.ListN.{length, getD, set, length-take}
 use borrow.Author.Tests.{lt-ltb, le-ltb}
-use Rattle.base.specs.Choice.{bit}
+use Rattle.base.proofs.Choice.{bit-small}
 use Rattle.base.proofs.Put.{put-whole}
 use Rattle.wire.specs.Wire.{field, modelAt, fitted, parse}
 use Rattle.wire.specs.Rack.{callOf, replies}
@@ -22,10 +22,6 @@ use Rattle.slots.specs.declared.Rack.{Rack}
 use Rattle.rack.specs.declared.Answer.{Answer}
 use Rattle.slots.specs.View.{Moves, Fair, scanned}
 use Rattle.rack.specs.Calls.{refusal, CallDoes, ReadDoes}
-
-bit-small : (t : Bool) → bit t ≤ 1
-bit-small true = omega arith
-bit-small false = omega arith
 
 module _ (r : Rack) (bytes b : List ℕ) where
   abbrev fits : ℕ → Bool

@@ -17,9 +17,9 @@ use Rattle.plain.specs.Plain.{plainSupply}
 use Rattle.slots.specs.declared.Rack.{Rack}
 use Rattle.slots.specs.View.{viewOf}
 use Rattle.rack.specs.declared.Answer.{Answer}
-use Rattle.rack.specs.Calls.{refusal, Answered, CallDoes, callAs}
+use Rattle.rack.specs.Calls.{refusal, Answered, callAs}
 use Rattle.rack.specs.Fit.{goodList}
-use Rattle.rack.specs.Demand3.{Leads, Run, setupOf}
+use Rattle.rack.specs.Demand3.{Through, Leads, Run, setupOf}
 
 -- a record with this view; its line holds the kept characters alone, where the code's array has 64 bytes
 abbrev pub packed : wire.Rack Supply → Rack
@@ -33,49 +33,55 @@ packed v =
 pub view-is : (v : wire.Rack Supply) → viewOf (packed v) ≡ v
 view-is v = let e = take-all (length (v .wire .kept)) (v .wire .kept) (omega arith) in rw e refl
 
--- an answer as a call has it, and the buffer that it leaves
-abbrev answerAs : wire.Rack Supply → wire.Answer Supply → Answer
-answerAs v (wire.refused n) = refusal (packed v) n
-answerAs v (wire.done q used t) = record { code = 0; rack = packed q; used = used; length = length t }
+-- an answer as a call on the rack m has it, and the buffer that it leaves
+abbrev pub answerAs : Rack → wire.Answer Supply → Answer
+answerAs m (wire.refused n) = refusal m n
+answerAs m (wire.done q used t) = record { code = 0; rack = packed q; used = used; length = length t }
 
 abbrev leftAs : List ℕ → wire.Answer Supply → List ℕ
 leftAs b (wire.refused n) = b
 leftAs b (wire.done q used t) = t ++ drop (length t) b
 
-answered : (v : wire.Rack Supply) (b : List ℕ) (w : wire.Answer Supply) → length (after plainSupply v w .wire .kept) ≤ 64 → Answered (packed v) b w (answerAs v w) (leftAs b w)
-answered v b (wire.refused n) h = (refl, refl)
-answered v b (wire.done q used t) h = λ small. record { code-is = refl; used-is = refl; small = h; rack-is = view-is q; length-is = refl; buffer-is = refl }
+answered : (m : Rack) (b : List ℕ) (w : wire.Answer Supply) → length (after plainSupply (viewOf m) w .wire .kept) ≤ 64 → Answered m b w (answerAs m w) (leftAs b w)
+answered m b (wire.refused n) h = (refl, refl)
+answered m b (wire.done q used t) h = λ small. record { code-is = refl; used-is = refl; small = h; rack-is = view-is q; length-is = refl; buffer-is = refl }
 
-rack-after : (v : wire.Rack Supply) (w : wire.Answer Supply) → answerAs v w .rack ≡ packed (after plainSupply v w)
-rack-after v (wire.refused n) = refl
-rack-after v (wire.done q used t) = refl
+view-after : (m : Rack) (w : wire.Answer Supply) → viewOf (answerAs m w .rack) ≡ after plainSupply (viewOf m) w
+view-after m (wire.refused n) = refl
+view-after m (wire.done q used t) = view-is q
 
-some-leads : (calls : List Call) (v : wire.Rack Supply) → LawfulWire (v .setup) (v .wire) → (q : Rack) × Leads (packed v) calls q
-some-leads [] v h = (packed v, refl)
-some-leads (c ∷ cs) v h =
+-- one call, on any rack
+pub through : (m : Rack) (c : Call) (Rest : Rack → Type 0) → length (after plainSupply (viewOf m) (callOf plainSupply (viewOf m) c) .wire .kept) ≤ 64 → Rest (answerAs m (callOf plainSupply (viewOf m) c) .rack) → Through m c Rest
+through m c Rest short rest =
     let b : List ℕ = replicate (c .room) 0 in
-    let w : wire.Answer Supply = callOf plainSupply v c in
+    let w : wire.Answer Supply = callOf plainSupply (viewOf m) c in
     let same : callAs (c .bytes) b ≡ c = ap (λ (n : ℕ). record { bytes = c .bytes; room = n }) (length-replicate (c .room) 0) in
-    let kept : LawfulWire (v .setup) (after plainSupply v w .wire) = run-lawful plainSupply v (c ∷ []) h in
-    let setup : after plainSupply v w .setup ≡ v .setup = run-setup plainSupply v (c ∷ []) in
-    let rest = some-leads cs (after plainSupply v w) (subst (λ (u : Setup). LawfulWire u (after plainSupply v w .wire)) (sym setup) kept) in (
-      rest .0,
-      record {
-        buffer = b;
-        room-is = length-replicate (c .room) 0;
-        answer = answerAs v w;
-        left = leftAs b w;
-        does = subst (λ (x : wire.Rack Supply). Answered (packed v) b (callOf plainSupply x (callAs (c .bytes) b)) (answerAs v w) (leftAs b w)) (sym (view-is v))
-            (subst (λ (x : Call). Answered (packed v) b (callOf plainSupply v x) (answerAs v w) (leftAs b w)) (sym same) (answered v b w (kept .short)));
-        rest = subst (λ (m : Rack). Leads m cs (rest .0)) (sym (rack-after v w)) (rest .1);
-      },
-    )
+    record {
+      buffer = b;
+      room-is = length-replicate (c .room) 0;
+      answer = answerAs m w;
+      left = leftAs b w;
+      does = subst (λ (x : Call). Answered m b (callOf plainSupply (viewOf m) x) (answerAs m w) (leftAs b w)) (sym same) (answered m b w short);
+      rest = rest;
+    }
+
+abbrev Lawful : wire.Rack Supply → Type 0
+Lawful v = LawfulWire (v .setup) (v .wire)
+
+some-leads : (calls : List Call) (m : Rack) → Lawful (viewOf m) → (q : Rack) × Leads m calls q
+some-leads [] m h = (m, refl)
+some-leads (c ∷ cs) m h =
+    let w : wire.Answer Supply = callOf plainSupply (viewOf m) c in
+    let kept : LawfulWire (m .setup) (after plainSupply (viewOf m) w .wire) = run-lawful plainSupply (viewOf m) (c ∷ []) h in
+    let setup : after plainSupply (viewOf m) w .setup ≡ m .setup = run-setup plainSupply (viewOf m) (c ∷ []) in
+    let next : Lawful (viewOf (answerAs m w .rack)) = subst Lawful (sym (view-after m w)) (subst (λ (u : Setup). LawfulWire u (after plainSupply (viewOf m) w .wire)) (sym setup) kept) in
+    let rest = some-leads cs (answerAs m w .rack) next in (rest .0, through m c (λ p. Leads p cs (rest .0)) (kept .short) (rest .1))
 
 -- EVERY LIST OF CALLS HAS A RUN, on the rack of every list that fits
 pub some-run : (l : List ℕ) (calls : List Call) → goodList l ≡ true → (r : Rack) × Run l calls r
 some-run l calls good =
     let v : wire.Rack Supply = freshRack plainSupply (setupOf l) in
-    let q = some-leads calls v (fresh-lawful (setupOf l)) in (
+    let q = some-leads calls (packed v) (subst Lawful (sym (view-is v)) (fresh-lawful (setupOf l))) in (
       q .0,
       record {
         fitting = record { code = 0; rack = packed v };

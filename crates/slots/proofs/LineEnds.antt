@@ -4,7 +4,7 @@ use mathlib.Core.Path.{_≡_, refl, sym, ap, _∙_}
 use mathlib.Core.Bool.{Bool, true, false, true≢false, false≢true}
 use mathlib.Core.List.{List, []}
 use lib.ListN.{getD, set, take}
-use lib.Seq.{set-getD}
+use Rattle.base.proofs.Lists.{set-same}
 use Rattle.base.specs.Put.{Put}
 use Rattle.wire.specs.declared.Setup.{Setup}
 use Rattle.wire.specs.Wire.{Class, modelAt, fitted, nobody, select, faulty, global, other, byClass}
@@ -34,8 +34,7 @@ module _ (u : Setup) (l : Line) (s : Supply) (b : List ℕ) (at : ℕ) where
   -- the supply stays
   still : (c : Class) (l′ : Line) (n : ℕ) (b′ : List ℕ) → ((ss : List Supply) → Moves (rackIs ss l u) (byClass u (wireOf l) c) (rackIs ss l′ u) b at n b′) → Ends u l s c (endedAs l′ s n) b at b′
   still c l′ n b′ m ss k e f =
-      let same : set ss k s ≡ ss = rw e (set-getD ss k (fresh 255)) in
-      rw same (m ss)
+      rw (set-same ss k s (fresh 255) e) (m ss)
 
   pub ends-select : (a : ℕ) (t : List ℕ) (l′ : Line) (n : ℕ) (b′ : List ℕ) → fitted u a ≡ true → Cleared l′ a → Put b at t n b′ → Ends u l s (select a t) (endedAs l′ s n) b at b′
   ends-select a t l′ n b′ f c p = still (select a t) l′ n b′ (λ ss. select-fitted (rackIs ss l u) b at a t l′ n b′ f c p)

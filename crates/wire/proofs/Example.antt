@@ -7,6 +7,7 @@ use native.Mathlib.Omega.{arith}
 use lib.Dec.{eqb, ltb}
 use lib.ListN.{length, getD, take, drop, replicate}
 use Rattle.base.specs.Choice.{pick, bit}
+use Rattle.base.proofs.Choice.{bit-small}
 use Rattle.base.specs.Text.{codes}
 use Rattle.wire.specs.Wire.{Entry, field, line, Class, select, faulty, global, other, byte, event, Parsed, refuse, accept, Grammar, Call, modelAt, parse, byteOn}
 use Rattle.wire.specs.Share.{typed, brought, shareOf}
@@ -135,16 +136,12 @@ trip = record { Trip = Kind; isSet = λ k s. s .trip; isOn = λ s. not (s .trip)
 within : ℕ → Toy → Type 0
 within m s = s .fields ≤ s .entries
 
-counted : (b : Bool) → bit b ≤ 1
-counted true = omega arith
-counted false = omega arith
-
 laws : (m : ℕ) → Laws toy trip within m
 unfolding within
 laws m =
     record {
       starts = omega arith;
-      keeps = λ s e h. omega (arith, counted (isField e));
+      keeps = λ s e h. omega (arith, bit-small (isField e));
       shut = λ k s h. rw h;
       held = λ k s e h q. rw (q, h);
       frees = λ k s e q. rw q;

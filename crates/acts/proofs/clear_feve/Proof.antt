@@ -7,11 +7,9 @@ use Rattle.acts.proofs.clear_feve.Tie as tie
 use Rattle.acts.proofs.clear_feve.Reads as reads
 use Rattle.acts.proofs.clear_feve.Lts as lts
 
--- src/lib.rt:14:1
 returns : tie.Need-returns
 returns c = sym (pick-true _ _ _ (c .if1 .taken))
 
--- src/lib.rt:14:1
 returns-2 : tie.Need-returns-2
 returns-2 c = sym (pick-false _ _ _ (c .if1 .left))
 

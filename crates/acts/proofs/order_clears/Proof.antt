@@ -6,83 +6,65 @@ use Rattle.acts.proofs.order_clears.Tie as tie
 use Rattle.acts.proofs.order_clears.Reads as reads
 use Rattle.acts.proofs.order_clears.Lts as lts
 
--- src/lib.rt:80:23
 enum-told : tie.Need-enum-told
 enum-told c = search needs
 
--- src/lib.rt:81:23
 enum-told-2 : tie.Need-enum-told-2
 enum-told-2 c = search needs
 
--- src/lib.rt:82:29
 enum-told-3 : tie.Need-enum-told-3
 enum-told-3 c = search needs
 
--- src/lib.rt:83:23
 enum-told-4 : tie.Need-enum-told-4
 enum-told-4 c = search needs
 
--- src/lib.rt:84:26
 enum-told-5 : tie.Need-enum-told-5
 enum-told-5 c = search needs
 
--- src/lib.rt:85:26
 enum-told-6 : tie.Need-enum-told-6
 enum-told-6 c = search needs
 
--- src/lib.rt:86:26
 enum-told-7 : tie.Need-enum-told-7
 enum-told-7 c = search needs
 
--- src/lib.rt:87:26
 enum-told-8 : tie.Need-enum-told-8
 enum-told-8 c = search needs
 
--- src/lib.rt:88:27
 enum-told-9 : tie.Need-enum-told-9
 enum-told-9 c = search needs
 
--- src/lib.rt:76:1
 returns : tie.Need-returns
 unfolding clearingOrder
 returns c = rw (c .enum-told .given .1)
 
--- src/lib.rt:76:1
 returns-2 : tie.Need-returns-2
 unfolding clearingOrder
 returns-2 c = rw (c .enum-told2 .given .1)
 
--- src/lib.rt:76:1
 returns-3 : tie.Need-returns-3
 unfolding clearingOrder
 returns-3 c = rw (c .enum-told3 .given .1)
 
--- src/lib.rt:76:1
 returns-4 : tie.Need-returns-4
 unfolding clearingOrder
 returns-4 c = rw (c .enum-told4 .given .1)
 
--- src/lib.rt:76:1
 returns-5 : tie.Need-returns-5
 unfolding clearingOrder
 returns-5 c = rw (c .enum-told5 .given .1)
 
--- src/lib.rt:76:1
 returns-6 : tie.Need-returns-6
 unfolding clearingOrder
 returns-6 c = rw (c .enum-told6 .given .1)
 
--- src/lib.rt:76:1
 returns-7 : tie.Need-returns-7
 unfolding clearingOrder
 returns-7 c = rw (c .enum-told7 .given .1)
 
--- src/lib.rt:76:1
 returns-8 : tie.Need-returns-8
 unfolding clearingOrder
 returns-8 c = rw (c .enum-told8 .given .1)
 
--- src/lib.rt:76:1
 returns-9 : tie.Need-returns-9
 unfolding clearingOrder
 returns-9 c = rw (c .enum-told9 .given .1)

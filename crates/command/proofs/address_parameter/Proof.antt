@@ -11,20 +11,16 @@ use Rattle.command.proofs.address_parameter.Lts as lts
 use Rattle.command.proofs.need.Reads as need-reads
 use Rattle.command.proofs.read_address.Reads as read-address-reads
 
--- src/lib.rt:158:18
 read-address-requires : tie.Need-read-address-requires
 read-address-requires c κs = search needs
 
--- src/lib.rt:158:9
 need-requires : tie.Need-need-requires
 need-requires c κs = search needs
 
--- src/lib.rt:155:1
 returns : tie.Need-returns
 unfolding parameterOf readAs
 returns c = (rw (← c .before .before .before .read-address .ensures, ← c .before .before .need .ensures, lt-ltb 30 _ (c .if1 .taken)), lit< tt)
 
--- src/lib.rt:155:1
 returns-2 : tie.Need-returns-2
 unfolding parameterOf readAs
 returns-2 c = (rw (← c .before .before .before .read-address .ensures, ← c .before .before .need .ensures, le-ltb 30 _ (c .if1 .left)), omega arith)

@@ -14,32 +14,25 @@ use Rattle.figures.proofs.part_after.Reads as part-after-reads
 use Rattle.figures.proofs.part_before.Reads as part-before-reads
 use Rattle.words.proofs.word_number.Reads as word-number-reads
 
--- src/lib.rt:363:9
 returns : tie.Need-returns
 unfolding asksOf
 returns c = rw (eq-eqb _ _ (c .if1 .taken))
 
--- src/lib.rt:365:9
 first-at-requires : tie.Need-first-at-requires
 first-at-requires c κs = search needs
 
--- src/lib.rt:366:35
 part-before-requires : tie.Need-part-before-requires
 part-before-requires c κs = search needs
 
--- src/lib.rt:366:9
 word-number-requires : tie.Need-word-number-requires
 word-number-requires c κs = search needs
 
--- src/lib.rt:367:24
 part-after-requires : tie.Need-part-after-requires
 part-after-requires c κs = search needs
 
--- src/lib.rt:367:5
 asks-of-word-requires : tie.Need-asks-of-word-requires
 asks-of-word-requires c κs = search needs
 
--- src/lib.rt:359:1
 returns-2 : tie.Need-returns-2
 unfolding asksOf
 returns-2 c = rw (ne-eqb _ _ (c .before .before .before .before .before .if1 .left)) (c .asks-of-word .ensures ∙ by-word _ _ _ _ _ (λ i. c .before .before .before .before .before .before .shared-slice-known .given i .fits) (c .before .before .before .before .first-at .ensures .0) (c .before .before .before .part-before .ensures) (c .before .before .word-number .ensures) (c .before .part-after .ensures))

@@ -23,286 +23,223 @@ use Rattle.command.proofs.select_one.Reads as select-one-reads
 use Rattle.command.proofs.set_all.Reads as set-all-reads
 use Rattle.command.proofs.set_one.Reads as set-one-reads
 
--- src/lib.rt:323:15
 set-one-requires : tie.Need-set-one-requires
 set-one-requires c κs = search needs
 
--- src/lib.rt:324:15
 set-one-requires-2 : tie.Need-set-one-requires-2
 set-one-requires-2 c κs = search needs
 
--- src/lib.rt:325:16
 set-one-requires-3 : tie.Need-set-one-requires-3
 set-one-requires-3 c κs = search needs
 
--- src/lib.rt:326:16
 bare-one-requires : tie.Need-bare-one-requires
 bare-one-requires c κs = search needs
 
--- src/lib.rt:327:16
 set-one-requires-4 : tie.Need-set-one-requires-4
 set-one-requires-4 c κs = search needs
 
--- src/lib.rt:328:16
 out-one-requires : tie.Need-out-one-requires
 out-one-requires c κs = search needs
 
--- src/lib.rt:329:16
 fld-one-requires : tie.Need-fld-one-requires
 fld-one-requires c κs = search needs
 
--- src/lib.rt:330:16
 ast-one-requires : tie.Need-ast-one-requires
 ast-one-requires c κs = search needs
 
--- src/lib.rt:331:16
 rmt-one-requires : tie.Need-rmt-one-requires
 rmt-one-requires c κs = search needs
 
--- src/lib.rt:332:17
 fena-one-requires : tie.Need-fena-one-requires
 fena-one-requires c κs = search needs
 
--- src/lib.rt:333:16
 bare-one-requires-2 : tie.Need-bare-one-requires-2
 bare-one-requires-2 c κs = search needs
 
--- src/lib.rt:334:16
 bare-one-requires-3 : tie.Need-bare-one-requires-3
 bare-one-requires-3 c κs = search needs
 
--- src/lib.rt:335:21
 query-one-requires : tie.Need-query-one-requires
 query-one-requires c κs = search needs
 
--- src/lib.rt:336:21
 query-one-requires-2 : tie.Need-query-one-requires-2
 query-one-requires-2 c κs = search needs
 
--- src/lib.rt:337:22
 query-one-requires-3 : tie.Need-query-one-requires-3
 query-one-requires-3 c κs = search needs
 
--- src/lib.rt:338:22
 query-one-requires-4 : tie.Need-query-one-requires-4
 query-one-requires-4 c κs = search needs
 
--- src/lib.rt:339:21
 query-one-requires-5 : tie.Need-query-one-requires-5
 query-one-requires-5 c κs = search needs
 
--- src/lib.rt:340:21
 query-one-requires-6 : tie.Need-query-one-requires-6
 query-one-requires-6 c κs = search needs
 
--- src/lib.rt:341:22
 query-one-requires-7 : tie.Need-query-one-requires-7
 query-one-requires-7 c κs = search needs
 
--- src/lib.rt:342:22
 query-one-requires-8 : tie.Need-query-one-requires-8
 query-one-requires-8 c κs = search needs
 
--- src/lib.rt:343:22
 query-one-requires-9 : tie.Need-query-one-requires-9
 query-one-requires-9 c κs = search needs
 
--- src/lib.rt:344:22
 query-one-requires-10 : tie.Need-query-one-requires-10
 query-one-requires-10 c κs = search needs
 
--- src/lib.rt:345:23
 query-one-requires-11 : tie.Need-query-one-requires-11
 query-one-requires-11 c κs = search needs
 
--- src/lib.rt:346:22
 query-one-requires-12 : tie.Need-query-one-requires-12
 query-one-requires-12 c κs = search needs
 
--- src/lib.rt:347:23
 query-one-requires-13 : tie.Need-query-one-requires-13
 query-one-requires-13 c κs = search needs
 
--- src/lib.rt:348:23
 query-one-requires-14 : tie.Need-query-one-requires-14
 query-one-requires-14 c κs = search needs
 
--- src/lib.rt:349:16
 select-one-requires : tie.Need-select-one-requires
 select-one-requires c κs = search needs
 
--- src/lib.rt:350:16
 set-all-requires : tie.Need-set-all-requires
 set-all-requires c κs = search needs
 
--- src/lib.rt:351:16
 set-all-requires-2 : tie.Need-set-all-requires-2
 set-all-requires-2 c κs = search needs
 
--- src/lib.rt:352:17
 out-all-requires : tie.Need-out-all-requires
 out-all-requires c κs = search needs
 
--- src/lib.rt:353:17
 bare-all-requires : tie.Need-bare-all-requires
 bare-all-requires c κs = search needs
 
--- src/lib.rt:319:1
 returns : tie.Need-returns
 unfolding findNumber
 returns c = c .set-one .ensures ∙ by-key _ (c .before .match .keys1)
 
--- src/lib.rt:319:1
 returns-2 : tie.Need-returns-2
 unfolding findNumber
 returns-2 c = c .set-one2 .ensures ∙ by-key _ (c .before .match .keys2)
 
--- src/lib.rt:319:1
 returns-3 : tie.Need-returns-3
 unfolding findNumber
 returns-3 c = c .set-one3 .ensures ∙ by-key _ (c .before .match .keys3)
 
--- src/lib.rt:319:1
 returns-4 : tie.Need-returns-4
 unfolding findNumber
 returns-4 c = c .bare-one .ensures ∙ by-key _ (c .before .match .keys4)
 
--- src/lib.rt:319:1
 returns-5 : tie.Need-returns-5
 unfolding findNumber
 returns-5 c = c .set-one4 .ensures ∙ by-key _ (c .before .match .keys5)
 
--- src/lib.rt:319:1
 returns-6 : tie.Need-returns-6
 unfolding findNumber
 returns-6 c = c .out-one .ensures ∙ by-key _ (c .before .match .keys6)
 
--- src/lib.rt:319:1
 returns-7 : tie.Need-returns-7
 unfolding findNumber
 returns-7 c = c .fld-one .ensures ∙ by-key _ (c .before .match .keys7)
 
--- src/lib.rt:319:1
 returns-8 : tie.Need-returns-8
 unfolding findNumber
 returns-8 c = c .ast-one .ensures ∙ by-key _ (c .before .match .keys8)
 
--- src/lib.rt:319:1
 returns-9 : tie.Need-returns-9
 unfolding findNumber
 returns-9 c = c .rmt-one .ensures ∙ by-key _ (c .before .match .keys9)
 
--- src/lib.rt:319:1
 returns-10 : tie.Need-returns-10
 unfolding findNumber
 returns-10 c = c .fena-one .ensures ∙ by-key _ (c .before .match .keys10)
 
--- src/lib.rt:319:1
 returns-11 : tie.Need-returns-11
 unfolding findNumber
 returns-11 c = c .bare-one2 .ensures ∙ by-key _ (c .before .match .keys11)
 
--- src/lib.rt:319:1
 returns-12 : tie.Need-returns-12
 unfolding findNumber
 returns-12 c = c .bare-one3 .ensures ∙ by-key _ (c .before .match .keys12)
 
--- src/lib.rt:319:1
 returns-13 : tie.Need-returns-13
 unfolding findNumber
 returns-13 c = c .query-one .ensures ∙ by-key _ (c .before .match .keys13)
 
--- src/lib.rt:319:1
 returns-14 : tie.Need-returns-14
 unfolding findNumber
 returns-14 c = c .query-one2 .ensures ∙ by-key _ (c .before .match .keys14)
 
--- src/lib.rt:319:1
 returns-15 : tie.Need-returns-15
 unfolding findNumber
 returns-15 c = c .query-one3 .ensures ∙ by-key _ (c .before .match .keys15)
 
--- src/lib.rt:319:1
 returns-16 : tie.Need-returns-16
 unfolding findNumber
 returns-16 c = c .query-one4 .ensures ∙ by-key _ (c .before .match .keys16)
 
--- src/lib.rt:319:1
 returns-17 : tie.Need-returns-17
 unfolding findNumber
 returns-17 c = c .query-one5 .ensures ∙ by-key _ (c .before .match .keys17)
 
--- src/lib.rt:319:1
 returns-18 : tie.Need-returns-18
 unfolding findNumber
 returns-18 c = c .query-one6 .ensures ∙ by-key _ (c .before .match .keys18)
 
--- src/lib.rt:319:1
 returns-19 : tie.Need-returns-19
 unfolding findNumber
 returns-19 c = c .query-one7 .ensures ∙ by-key _ (c .before .match .keys19)
 
--- src/lib.rt:319:1
 returns-20 : tie.Need-returns-20
 unfolding findNumber
 returns-20 c = c .query-one8 .ensures ∙ by-key _ (c .before .match .keys20)
 
--- src/lib.rt:319:1
 returns-21 : tie.Need-returns-21
 unfolding findNumber
 returns-21 c = c .query-one9 .ensures ∙ by-key _ (c .before .match .keys21)
 
--- src/lib.rt:319:1
 returns-22 : tie.Need-returns-22
 unfolding findNumber
 returns-22 c = c .query-one10 .ensures ∙ by-key _ (c .before .match .keys22)
 
--- src/lib.rt:319:1
 returns-23 : tie.Need-returns-23
 unfolding findNumber
 returns-23 c = c .query-one11 .ensures ∙ by-key _ (c .before .match .keys23)
 
--- src/lib.rt:319:1
 returns-24 : tie.Need-returns-24
 unfolding findNumber
 returns-24 c = c .query-one12 .ensures ∙ by-key _ (c .before .match .keys24)
 
--- src/lib.rt:319:1
 returns-25 : tie.Need-returns-25
 unfolding findNumber
 returns-25 c = c .query-one13 .ensures ∙ by-key _ (c .before .match .keys25)
 
--- src/lib.rt:319:1
 returns-26 : tie.Need-returns-26
 unfolding findNumber
 returns-26 c = c .query-one14 .ensures ∙ by-key _ (c .before .match .keys26)
 
--- src/lib.rt:319:1
 returns-27 : tie.Need-returns-27
 unfolding findNumber
 returns-27 c = c .select-one .ensures ∙ by-key _ (c .before .match .keys27)
 
--- src/lib.rt:319:1
 returns-28 : tie.Need-returns-28
 unfolding findNumber
 returns-28 c = c .set-all .ensures ∙ by-key _ (c .before .match .keys28)
 
--- src/lib.rt:319:1
 returns-29 : tie.Need-returns-29
 unfolding findNumber
 returns-29 c = c .set-all2 .ensures ∙ by-key _ (c .before .match .keys29)
 
--- src/lib.rt:319:1
 returns-30 : tie.Need-returns-30
 unfolding findNumber
 returns-30 c = c .out-all .ensures ∙ by-key _ (c .before .match .keys30)
 
--- src/lib.rt:319:1
 returns-31 : tie.Need-returns-31
 unfolding findNumber
 returns-31 c = c .bare-all .ensures ∙ by-key _ (c .before .match .keys31)
 
--- src/lib.rt:319:1
 returns-32 : tie.Need-returns-32
 unfolding findNumber askedBy parameterOf
 returns-32 c = rw (find-none unknownWord commands (c .before .before .args .word) Unit (c .match .rest))

@@ -8,15 +8,12 @@ use Rattle.command.proofs.bare_all.Lts as lts
 use Rattle.command.proofs.all_order.Reads as all-order-reads
 use Rattle.command.proofs.bare_parameter.Reads as bare-parameter-reads
 
--- src/lib.rt:259:9
 bare-parameter-requires : tie.Need-bare-parameter-requires
 bare-parameter-requires c κs = search needs
 
--- src/lib.rt:260:5
 all-order-requires : tie.Need-all-order-requires
 all-order-requires c κs = search needs
 
--- src/lib.rt:256:1
 returns : tie.Need-returns
 unfolding askedBy
 returns c = rw (← c .before .bare-parameter .ensures) (c .all-order .ensures)

@@ -8,15 +8,12 @@ use Rattle.command.proofs.bare_one.Lts as lts
 use Rattle.command.proofs.bare_parameter.Reads as bare-parameter-reads
 use Rattle.command.proofs.one_order.Reads as one-order-reads
 
--- src/lib.rt:252:9
 bare-parameter-requires : tie.Need-bare-parameter-requires
 bare-parameter-requires c κs = search needs
 
--- src/lib.rt:253:5
 one-order-requires : tie.Need-one-order-requires
 one-order-requires c κs = search needs
 
--- src/lib.rt:249:1
 returns : tie.Need-returns
 unfolding askedBy
 returns c = rw (← c .before .bare-parameter .ensures) (c .one-order .ensures)

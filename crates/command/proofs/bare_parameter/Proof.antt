@@ -6,12 +6,10 @@ use Rattle.command.proofs.bare_parameter.Tie as tie
 use Rattle.command.proofs.bare_parameter.Reads as reads
 use Rattle.command.proofs.bare_parameter.Lts as lts
 
--- src/lib.rt:119:1
 returns : tie.Need-returns
 unfolding parameterOf
 returns c = rw (eq-eqb _ _ (c .if1 .taken))
 
--- src/lib.rt:119:1
 returns-2 : tie.Need-returns-2
 unfolding parameterOf
 returns-2 c = rw (ne-eqb _ _ (c .if1 .left))

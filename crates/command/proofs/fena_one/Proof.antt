@@ -8,19 +8,15 @@ use Rattle.command.proofs.fena_one.Lts as lts
 use Rattle.command.proofs.hex_parameter.Reads as hex-parameter-reads
 use Rattle.command.proofs.one_order.Reads as one-order-reads
 
--- src/lib.rt:245:9
 hex-parameter-requires : tie.Need-hex-parameter-requires
 hex-parameter-requires c κs = search needs
 
--- src/lib.rt:246:27
 cast-t3 : tie.Need-cast-t3
 cast-t3 c = search needs
 
--- src/lib.rt:246:5
 one-order-requires : tie.Need-one-order-requires
 one-order-requires c κs = search needs
 
--- src/lib.rt:242:1
 returns : tie.Need-returns
 unfolding askedBy
 returns c = rw (← c .before .before .hex-parameter .ensures .0) (c .one-order .ensures)

@@ -8,15 +8,12 @@ use Rattle.command.proofs.fld_one.Lts as lts
 use Rattle.command.proofs.one_order.Reads as one-order-reads
 use Rattle.command.proofs.switch_parameter.Reads as switch-parameter-reads
 
--- src/lib.rt:224:9
 switch-parameter-requires : tie.Need-switch-parameter-requires
 switch-parameter-requires c κs = search needs
 
--- src/lib.rt:225:5
 one-order-requires : tie.Need-one-order-requires
 one-order-requires c κs = search needs
 
--- src/lib.rt:221:1
 returns : tie.Need-returns
 unfolding askedBy
 returns c = rw (← c .before .before .switch-parameter .ensures .0) (c .one-order .ensures)

@@ -11,15 +11,12 @@ use Rattle.command.proofs.hex_parameter.Lts as lts
 use Rattle.command.proofs.need.Reads as need-reads
 use Rattle.figures.proofs.read_hex.Reads as read-hex-reads
 
--- src/lib.rt:152:10
 read-hex-requires : tie.Need-read-hex-requires
 read-hex-requires c κs = search needs
 
--- src/lib.rt:152:5
 need-requires : tie.Need-need-requires
 need-requires c κs = search needs
 
--- src/lib.rt:149:1
 returns : tie.Need-returns
 unfolding parameterOf readAs
 returns c = (rw (← c .before .read-hex .ensures) (c .need .ensures), rw (c .need .ensures, c .before .read-hex .ensures) (needed-small (readHex (c .before .before .before .args .x .now)) (c .before .before .before .args .x .now) 256 (hex-lt (c .before .before .before .args .x .now))))

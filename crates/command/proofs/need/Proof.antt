@@ -5,15 +5,12 @@ use Rattle.command.proofs.need.Tie as tie
 use Rattle.command.proofs.need.Reads as reads
 use Rattle.command.proofs.need.Lts as lts
 
--- src/lib.rt:53:9
 returns : tie.Need-returns
 returns c = rw (eq-eqb _ _ (c .if1 .taken))
 
--- src/lib.rt:49:1
 returns-2 : tie.Need-returns-2
 returns-2 c = rw (ne-eqb _ _ (c .before .if1 .left), c .if2 .taken)
 
--- src/lib.rt:49:1
 returns-3 : tie.Need-returns-3
 returns-3 c = rw (ne-eqb _ _ (c .before .if1 .left), c .if2 .left)
 

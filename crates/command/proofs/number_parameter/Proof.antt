@@ -8,15 +8,12 @@ use Rattle.command.proofs.number_parameter.Lts as lts
 use Rattle.command.proofs.need.Reads as need-reads
 use Rattle.figures.proofs.read_number.Reads as read-number-reads
 
--- src/lib.rt:139:10
 read-number-requires : tie.Need-read-number-requires
 read-number-requires c κs = search needs
 
--- src/lib.rt:139:5
 need-requires : tie.Need-need-requires
 need-requires c κs = search needs
 
--- src/lib.rt:135:1
 returns : tie.Need-returns
 unfolding parameterOf readAs
 returns c = rw (← c .before .read-number .ensures) (c .need .ensures)

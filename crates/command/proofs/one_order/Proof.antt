@@ -5,11 +5,9 @@ use Rattle.command.proofs.one_order.Tie as tie
 use Rattle.command.proofs.one_order.Reads as reads
 use Rattle.command.proofs.one_order.Lts as lts
 
--- src/lib.rt:170:1
 returns : tie.Need-returns
 returns c = rw (eq-eqb _ _ (c .if1 .taken))
 
--- src/lib.rt:170:1
 returns-2 : tie.Need-returns-2
 returns-2 c = rw (ne-eqb _ _ (c .if1 .left))
 

@@ -8,15 +8,12 @@ use Rattle.command.proofs.out_all.Lts as lts
 use Rattle.command.proofs.all_order.Reads as all-order-reads
 use Rattle.command.proofs.switch_parameter.Reads as switch-parameter-reads
 
--- src/lib.rt:217:9
 switch-parameter-requires : tie.Need-switch-parameter-requires
 switch-parameter-requires c κs = search needs
 
--- src/lib.rt:218:5
 all-order-requires : tie.Need-all-order-requires
 all-order-requires c κs = search needs
 
--- src/lib.rt:214:1
 returns : tie.Need-returns
 unfolding askedBy
 returns c = rw (← c .before .before .switch-parameter .ensures .0) (c .all-order .ensures)

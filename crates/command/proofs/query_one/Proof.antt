@@ -8,16 +8,13 @@ use Rattle.command.proofs.query_one.Reads as reads
 use Rattle.command.proofs.query_one.Lts as lts
 use Rattle.command.proofs.bare_parameter.Reads as bare-parameter-reads
 
--- src/lib.rt:266:9
 bare-parameter-requires : tie.Need-bare-parameter-requires
 bare-parameter-requires c κs = search needs
 
--- src/lib.rt:263:1
 returns : tie.Need-returns
 unfolding askedBy
 returns c = rw (← c .before .before .bare-parameter .ensures, eq-eqb _ _ (c .if1 .taken))
 
--- src/lib.rt:263:1
 returns-2 : tie.Need-returns-2
 unfolding askedBy
 returns-2 c = rw (← c .before .before .bare-parameter .ensures, ne-eqb _ _ (c .if1 .left))

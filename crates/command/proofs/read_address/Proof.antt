@@ -11,31 +11,24 @@ use Rattle.figures.proofs.all_digits.Reads as all-digits-reads
 use Rattle.figures.proofs.no_number.Reads as no-number-reads
 use Rattle.figures.proofs.run_value.Reads as run-value-reads
 
--- src/lib.rt:107:9
 no-number-requires : tie.Need-no-number-requires
 no-number-requires c κs = search needs
 
--- src/lib.rt:107:9
 returns : tie.Need-returns
 returns c = rw (le-ltb (length (c .before .before .before .args .x .now)) 3 (omega arith)) (c .no-number .ensures)
 
--- src/lib.rt:109:8
 all-digits-requires : tie.Need-all-digits-requires
 all-digits-requires c κs = search needs
 
--- src/lib.rt:112:20
 run-value-requires : tie.Need-run-value-requires
 run-value-requires c κs = search needs
 
--- src/lib.rt:115:9
 no-number-requires-2 : tie.Need-no-number-requires-2
 no-number-requires-2 c κs = search needs
 
--- src/lib.rt:102:1
 returns-2 : tie.Need-returns-2
 returns-2 c = rw (lt-ltb (length (c .before .before .before .before .before .args .x .now)) 3 (omega arith), ← c .before .before .all-digits .ensures, c .before .if2 .taken, c .run-value .ensures)
 
--- src/lib.rt:102:1
 returns-3 : tie.Need-returns-3
 returns-3 c = rw (lt-ltb (length (c .before .before .before .before .before .args .x .now)) 3 (omega arith), ← c .before .before .all-digits .ensures, c .before .if2 .left) (c .no-number2 .ensures)
 

@@ -11,71 +11,55 @@ use Rattle.command.proofs.heard_as.Reads as heard-as-reads
 use Rattle.command.proofs.right_sum.Reads as right-sum-reads
 use Rattle.figures.proofs.part_before.Reads as part-before-reads
 
--- src/lib.rt:392:9
 heard-as-requires : tie.Need-heard-as-requires
 heard-as-requires c κs = search needs
 
--- src/lib.rt:392:9
 returns : tie.Need-returns
 unfolding heardOf
 returns c = rw (c .before .if1 .taken) (c .heard-as .ensures)
 
--- src/lib.rt:396:25
 asks-of-requires : tie.Need-asks-of-requires
 asks-of-requires c κs = search needs
 
--- src/lib.rt:396:9
 heard-as-requires-2 : tie.Need-heard-as-requires-2
 heard-as-requires-2 c κs = search needs
 
--- src/lib.rt:396:9
 returns-2 : tie.Need-returns-2
 unfolding heardOf
 returns-2 c = rw (c .before .before .before .if1 .left, lt-leb 3 _ (c .before .before .if2 .taken), ← c .before .asks-of .ensures) (c .heard-as2 .ensures)
 
--- src/lib.rt:398:8
 shared-slice-read-if3 : tie.Need-shared-slice-read-if3
 shared-slice-read-if3 c = search needs
 
--- src/lib.rt:399:25
 asks-of-requires-2 : tie.Need-asks-of-requires-2
 asks-of-requires-2 c κs = search needs
 
--- src/lib.rt:399:9
 heard-as-requires-3 : tie.Need-heard-as-requires-3
 heard-as-requires-3 c κs = search needs
 
--- src/lib.rt:399:9
 returns-3 : tie.Need-returns-3
 unfolding heardOf
 returns-3 c = rw (c .before .before .before .before .before .if1 .left, le-leb 3 _ (c .before .before .before .before .if2 .left), ne-eqb _ 36 (c .before .before .if3 .taken), ← c .before .asks-of2 .ensures) (c .heard-as3 .ensures)
 
--- src/lib.rt:401:8
 right-sum-requires : tie.Need-right-sum-requires
 right-sum-requires c κs = search needs
 
--- src/lib.rt:402:26
 part-before-requires : tie.Need-part-before-requires
 part-before-requires c κs = search needs
 
--- src/lib.rt:402:18
 asks-of-requires-3 : tie.Need-asks-of-requires-3
 asks-of-requires-3 c κs = search needs
 
--- src/lib.rt:402:9
 heard-as-requires-4 : tie.Need-heard-as-requires-4
 heard-as-requires-4 c κs = search needs
 
--- src/lib.rt:404:9
 heard-as-requires-5 : tie.Need-heard-as-requires-5
 heard-as-requires-5 c κs = search needs
 
--- src/lib.rt:388:1
 returns-4 : tie.Need-returns-4
 unfolding heardOf
 returns-4 c = rw (c .before .before .before .before .before .before .before .before .if1 .left, le-leb 3 _ (c .before .before .before .before .before .before .before .if2 .left), eq-eqb _ 36 (c .before .before .before .before .before .if3 .left), ← c .before .before .before .before .right-sum .ensures, c .before .before .before .if4 .taken, ← c .before .before .part-before .ensures, ← c .before .asks-of3 .ensures) (c .heard-as4 .ensures)
 
--- src/lib.rt:388:1
 returns-5 : tie.Need-returns-5
 unfolding heardOf
 returns-5 c = rw (c .before .before .before .before .before .before .if1 .left, le-leb 3 _ (c .before .before .before .before .before .if2 .left), eq-eqb _ 36 (c .before .before .before .if3 .left), ← c .before .before .right-sum .ensures, c .before .if4 .left) (c .heard-as5 .ensures)

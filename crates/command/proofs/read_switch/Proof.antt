@@ -9,43 +9,33 @@ use Rattle.command.proofs.read_switch.Lts as lts
 use Rattle.base.proofs.wide.Reads as wide-reads
 use Rattle.figures.proofs.no_number.Reads as no-number-reads
 
--- src/lib.rt:86:9
 no-number-requires : tie.Need-no-number-requires
 no-number-requires c κs = search needs
 
--- src/lib.rt:86:9
 returns : tie.Need-returns
 returns c = (rw (ne-eqb _ 1 (c .before .if1 .taken)) (c .no-number .ensures), rw (c .no-number .ensures) (lit< tt))
 
--- src/lib.rt:88:13
 shared-slice-read-b : tie.Need-shared-slice-read-b
 shared-slice-read-b c = search needs
 
--- src/lib.rt:90:9
 no-number-requires-2 : tie.Need-no-number-requires-2
 no-number-requires-2 c κs = search needs
 
--- src/lib.rt:90:9
 returns-2 : tie.Need-returns-2
 returns-2 c = (rw (eq-eqb _ 1 (c .before .before .before .if1 .left), lt-leb 48 _ (c .before .if2 .taken)) (c .no-number2 .ensures), rw (c .no-number2 .ensures) (lit< tt))
 
--- src/lib.rt:92:8
 add-if3 : tie.Need-add-if3
 add-if3 c = search needs
 
--- src/lib.rt:93:9
 no-number-requires-3 : tie.Need-no-number-requires-3
 no-number-requires-3 c κs = search needs
 
--- src/lib.rt:93:9
 returns-3 : tie.Need-returns-3
 returns-3 c = (rw (eq-eqb _ 1 (c .before .before .before .before .if1 .left), le-leb 48 _ (c .before .before .if2 .left), lt-leb _ _ (c .before .if3 .taken)) (c .no-number3 .ensures), rw (c .no-number3 .ensures) (lit< tt))
 
--- src/lib.rt:97:16
 wide-requires : tie.Need-wide-requires
 wide-requires c κs = search needs
 
--- src/lib.rt:81:1
 returns-4 : tie.Need-returns-4
 returns-4 c = (rw (eq-eqb _ 1 (c .before .before .before .before .if1 .left), le-leb 48 _ (c .before .before .if2 .left), le-leb _ _ (c .before .if3 .left), c .wide .ensures .0), c .wide .ensures .1)
 

@@ -11,35 +11,27 @@ use Rattle.figures.proofs.part_before.Reads as part-before-reads
 use Rattle.figures.proofs.read_hex.Reads as read-hex-reads
 use Rattle.figures.proofs.sum.Reads as sum-reads
 
--- src/lib.rt:382:57
 sub-part-after : tie.Need-sub-part-after
 sub-part-after c = search needs
 
--- src/lib.rt:382:34
 part-after-requires : tie.Need-part-after-requires
 part-after-requires c κs = search needs
 
--- src/lib.rt:382:9
 read-hex-requires : tie.Need-read-hex-requires
 read-hex-requires c κs = search needs
 
--- src/lib.rt:383:52
 sub-part-before : tie.Need-sub-part-before
 sub-part-before c = search needs
 
--- src/lib.rt:383:28
 part-before-requires : tie.Need-part-before-requires
 part-before-requires c κs = search needs
 
--- src/lib.rt:383:9
 sum-requires : tie.Need-sum-requires
 sum-requires c κs = search needs
 
--- src/lib.rt:384:32
 wide-requires : tie.Need-wide-requires
 wide-requires c κs = search needs
 
--- src/lib.rt:377:1
 returns : tie.Need-returns
 returns c = right-sum _ _ _ _ _ _ (c .before .before .before .before .before .before .before .before .pre) (c .before .before .before .before .before .before .part-after .ensures) (c .before .before .before .before .part-before .ensures) (c .before .before .before .before .before .read-hex .ensures) (c .before .before .before .sum .ensures) (c .before .before .wide .ensures .0)
 

@@ -8,19 +8,15 @@ use Rattle.command.proofs.rmt_one.Lts as lts
 use Rattle.command.proofs.one_order.Reads as one-order-reads
 use Rattle.command.proofs.switch_parameter.Reads as switch-parameter-reads
 
--- src/lib.rt:238:9
 switch-parameter-requires : tie.Need-switch-parameter-requires
 switch-parameter-requires c κs = search needs
 
--- src/lib.rt:239:26
 cast-t3 : tie.Need-cast-t3
 cast-t3 c = search needs
 
--- src/lib.rt:239:5
 one-order-requires : tie.Need-one-order-requires
 one-order-requires c κs = search needs
 
--- src/lib.rt:235:1
 returns : tie.Need-returns
 unfolding askedBy
 returns c = rw (← c .before .before .switch-parameter .ensures .0) (c .one-order .ensures)

@@ -8,20 +8,16 @@ use Rattle.command.proofs.select_one.Reads as reads
 use Rattle.command.proofs.select_one.Lts as lts
 use Rattle.command.proofs.address_parameter.Reads as address-parameter-reads
 
--- src/lib.rt:277:9
 address-parameter-requires : tie.Need-address-parameter-requires
 address-parameter-requires c κs = search needs
 
--- src/lib.rt:279:22
 cast-t5 : tie.Need-cast-t5
 cast-t5 c = search needs
 
--- src/lib.rt:274:1
 returns : tie.Need-returns
 unfolding askedBy
 returns c = rw (← c .before .before .before .address-parameter .ensures .0, eq-eqb _ _ (c .before .if1 .taken))
 
--- src/lib.rt:274:1
 returns-2 : tie.Need-returns-2
 unfolding askedBy
 returns-2 c = rw (← c .before .before .address-parameter .ensures .0, ne-eqb _ _ (c .if1 .left))

@@ -8,15 +8,12 @@ use Rattle.command.proofs.set_all.Lts as lts
 use Rattle.command.proofs.all_order.Reads as all-order-reads
 use Rattle.command.proofs.number_parameter.Reads as number-parameter-reads
 
--- src/lib.rt:203:9
 number-parameter-requires : tie.Need-number-parameter-requires
 number-parameter-requires c κs = search needs
 
--- src/lib.rt:204:5
 all-order-requires : tie.Need-all-order-requires
 all-order-requires c κs = search needs
 
--- src/lib.rt:199:1
 returns : tie.Need-returns
 unfolding askedBy
 returns c = rw (← c .before .number-parameter .ensures) (c .all-order .ensures)

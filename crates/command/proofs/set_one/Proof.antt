@@ -8,15 +8,12 @@ use Rattle.command.proofs.set_one.Lts as lts
 use Rattle.command.proofs.number_parameter.Reads as number-parameter-reads
 use Rattle.command.proofs.one_order.Reads as one-order-reads
 
--- src/lib.rt:195:9
 number-parameter-requires : tie.Need-number-parameter-requires
 number-parameter-requires c κs = search needs
 
--- src/lib.rt:196:5
 one-order-requires : tie.Need-one-order-requires
 one-order-requires c κs = search needs
 
--- src/lib.rt:191:1
 returns : tie.Need-returns
 unfolding askedBy
 returns c = rw (← c .before .number-parameter .ensures) (c .one-order .ensures)

@@ -9,15 +9,12 @@ use Rattle.command.proofs.switch_parameter.Lts as lts
 use Rattle.command.proofs.need.Reads as need-reads
 use Rattle.command.proofs.read_switch.Reads as read-switch-reads
 
--- src/lib.rt:146:10
 read-switch-requires : tie.Need-read-switch-requires
 read-switch-requires c κs = search needs
 
--- src/lib.rt:146:5
 need-requires : tie.Need-need-requires
 need-requires c κs = search needs
 
--- src/lib.rt:142:1
 returns : tie.Need-returns
 unfolding parameterOf readAs
 returns c = (rw (← c .before .read-switch .ensures .0) (c .need .ensures), rw (c .need .ensures) (needed-small (c .before .read-switch .result) (c .before .before .before .args .x .now) 256 (c .before .read-switch .ensures .1)))

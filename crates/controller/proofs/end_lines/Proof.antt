@@ -21,45 +21,35 @@ Inv-loop out₀ n end i₀ out i =
 abbrev μ-loop : tie.MeasureT-loop
 μ-loop out₀ n end i₀ out i = end - i
 
--- src/main.rt:61:9
 least-requires : tie.Need-least-requires Inv-loop μ-loop
 least-requires c κs = search needs
 
--- src/main.rt:63:5
 loop-holds : tie.Need-loop-holds Inv-loop μ-loop
 loop-holds c = (search needs, refl, c .least .ensures .0, c .least .ensures .1, refl)
 
--- src/main.rt:64:31
 slice-read-printed-byte : tie.Need-slice-read-printed-byte Inv-loop μ-loop
 slice-read-printed-byte c = search needs
 
--- src/main.rt:64:18
 printed-byte-requires : tie.Need-printed-byte-requires Inv-loop μ-loop
 printed-byte-requires c κs = search needs
 
--- src/main.rt:64:9
 slice-write-out : tie.Need-slice-write-out Inv-loop μ-loop
 slice-write-out c = search needs
 
--- src/main.rt:65:9
 add-i : tie.Need-add-i Inv-loop μ-loop
 add-i c = search needs
 
--- src/main.rt:63:5
 loop-less : tie.Need-loop-less Inv-loop μ-loop
 loop-less c = search needs
 
--- src/main.rt:63:5
 loop-again : tie.Need-loop-again Inv-loop μ-loop
 loop-again c =
     let l = c .before .before .before in
     (search needs, length-set (l .loop .out) _ _ ∙ l .loop .inv .1, l .loop .inv .2, l .loop .inv .3, eachTo-again (λ j b. printed b) (l .loop .i) _ (l .loop .out) 0 _ (l .loop .inv .4) (c .printed-byte .ensures))
 
--- src/main.rt:58:1
 same-length : tie.Need-same-length Inv-loop μ-loop
 same-length c = search needs
 
--- src/main.rt:58:1
 returns : tie.Need-returns Inv-loop μ-loop
 returns c = λ h.
     let l = c .before in

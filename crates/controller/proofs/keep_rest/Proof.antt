@@ -16,43 +16,33 @@ Inv-loop room₀ used n end from₀ i₀ room from i = (i ≤ from) × (length r
 abbrev μ-loop : tie.MeasureT-loop
 μ-loop room₀ used n end from₀ i₀ room from i = end - from
 
--- src/main.rt:131:9
 least-requires : tie.Need-least-requires Inv-loop μ-loop
 least-requires c κs = search needs
 
--- src/main.rt:134:5
 loop-holds : tie.Need-loop-holds Inv-loop μ-loop
 loop-holds c = search needs
 
--- src/main.rt:135:19
 slice-read-room : tie.Need-slice-read-room Inv-loop μ-loop
 slice-read-room c = search needs
 
--- src/main.rt:135:9
 slice-write-room : tie.Need-slice-write-room Inv-loop μ-loop
 slice-write-room c = search needs
 
--- src/main.rt:136:9
 add-i : tie.Need-add-i Inv-loop μ-loop
 add-i c = search needs
 
--- src/main.rt:137:9
 add-from : tie.Need-add-from Inv-loop μ-loop
 add-from c = search needs
 
--- src/main.rt:134:5
 loop-less : tie.Need-loop-less Inv-loop μ-loop
 loop-less c = search needs
 
--- src/main.rt:134:5
 loop-again : tie.Need-loop-again Inv-loop μ-loop
 loop-again c = search needs
 
--- src/main.rt:130:1
 same-length : tie.Need-same-length Inv-loop μ-loop
 same-length c = search needs
 
--- src/main.rt:130:1
 returns : tie.Need-returns Inv-loop μ-loop
 returns c = search needs
 

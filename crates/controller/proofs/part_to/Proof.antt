@@ -8,15 +8,12 @@ use Rattle.controller.proofs.part_to.Reads as reads
 use Rattle.controller.proofs.part_to.Lts as lts
 use Rattle.controller.proofs.least.Reads as least-reads
 
--- src/main.rt:45:9
 least-requires : tie.Need-least-requires
 least-requires c κs = search needs
 
--- src/main.rt:46:5
 slice-aggregate-result : tie.Need-slice-aggregate-result
 slice-aggregate-result c = sym (length-take-le _ _ (c .before .least .ensures .0))
 
--- src/main.rt:44:1
 returns : tie.Need-returns
 returns c = search needs
 

@@ -7,12 +7,10 @@ use Rattle.controller.proofs.printed_byte.Tie as tie
 use Rattle.controller.proofs.printed_byte.Reads as reads
 use Rattle.controller.proofs.printed_byte.Lts as lts
 
--- src/main.rt:67:1
 returns : tie.Need-returns
 unfolding printed
 returns c = rw (eq-eqb _ 13 (c .if1 .taken)) refl
 
--- src/main.rt:67:1
 returns-2 : tie.Need-returns-2
 unfolding printed
 returns-2 c = rw (ne-eqb _ 13 (c .if1 .left)) refl

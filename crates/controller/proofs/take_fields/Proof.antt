@@ -12,7 +12,7 @@ use Rattle.controller.proofs.take_fields.Reads as reads
 use Rattle.controller.proofs.take_fields.Lts as lts
 use Rattle.controller.proofs.take_some.Reads as take-some-reads
 use Rattle.controller.proofs.write_out.Reads as write-out-reads
-use Rattle.feed.proofs.part_from.Reads as part-from-reads
+use Rattle.base.proofs.part_from.Reads as part-from-reads
 
 abbrev Inv-loop : tie.InvT-loop
 Inv-loop s reply₀ out₀ w₀ used₀ reply out w used = (used ≤ length s) × (length reply ≡ length reply₀) × (length out ≡ length out₀)
@@ -20,19 +20,15 @@ Inv-loop s reply₀ out₀ w₀ used₀ reply out w used = (used ≤ length s) �
 abbrev μ-loop : tie.MeasureT-loop
 μ-loop s reply₀ out₀ w₀ used₀ reply out w used = length s - used + bit (w .more)
 
--- src/main.rt:118:5
 loop-holds : tie.Need-loop-holds Inv-loop μ-loop
 loop-holds c = search needs
 
--- src/main.rt:121:29
 part-from-requires : tie.Need-part-from-requires Inv-loop μ-loop
 part-from-requires c κs = search needs
 
--- src/main.rt:121:9
 take-some-requires : tie.Need-take-some-requires Inv-loop μ-loop
 take-some-requires c κs = search needs
 
--- src/main.rt:122:9
 add-used : tie.Need-add-used Inv-loop μ-loop
 add-used c =
     let l = c .before .before .before .before .before .before .before .before .before .before .before in
@@ -41,7 +37,6 @@ add-used c =
     let m : l .loop .used + c .before .before .before .before .before .take-some .result .used ≤ length s = omega (arith, k, l .loop .inv .0) in
     search (needs, m, c .before .before .before .before .before .before .before .before .before .before .before .before .before .before .shared-slice-known .given)
 
--- src/main.rt:118:5
 loop-less : tie.Need-loop-less Inv-loop μ-loop
 loop-less c =
     let l = c .before .before .before .before .before .before .before .before .before .before .before in
@@ -49,7 +44,6 @@ loop-less c =
     let k : c .before .before .before .before .before .take-some .result .used ≤ length s - l .loop .used = rw (← length-drop (l .loop .used) s, ← c .before .before .before .before .before .before .before .before .part-from .ensures) (c .before .before .before .before .before .take-some .ensures .0) in
     spent (length s) (l .loop .used) (c .before .before .before .before .before .take-some .result .used) (l .loop .w .more) (c .before .before .before .before .before .take-some .result .more) (l .loop .inv .0) k (c .before .before .before .before .before .before .before .before .before .before .loop-test .taken) (c .before .before .before .before .before .take-some .ensures .1)
 
--- src/main.rt:118:5
 loop-again : tie.Need-loop-again Inv-loop μ-loop
 loop-again c =
     let l = c .before .before .before .before .before .before .before .before .before .before .before in
@@ -57,19 +51,15 @@ loop-again c =
     let k : c .before .before .before .before .before .take-some .result .used ≤ length s - l .loop .used = rw (← length-drop (l .loop .used) s, ← c .before .before .before .before .before .before .before .before .part-from .ensures) (c .before .before .before .before .before .take-some .ensures .0) in
     (omega (arith, k, l .loop .inv .0), search needs, search needs)
 
--- src/main.rt:125:5
 write-out-requires : tie.Need-write-out-requires Inv-loop μ-loop
 write-out-requires c κs = search needs
 
--- src/main.rt:109:1
 same-length : tie.Need-same-length Inv-loop μ-loop
 same-length c = search needs
 
--- src/main.rt:109:1
 same-length-2 : tie.Need-same-length-2 Inv-loop μ-loop
 same-length-2 c = search needs
 
--- src/main.rt:109:1
 returns : tie.Need-returns Inv-loop μ-loop
 returns c = search needs
 

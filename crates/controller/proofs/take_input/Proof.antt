@@ -19,75 +19,57 @@ Inv-loop room₀ reply₀ out₀ rack₀ kept₀ code₀ more₀ reads₀ room r
 abbrev μ-loop : tie.MeasureT-loop
 μ-loop room₀ reply₀ out₀ rack₀ kept₀ code₀ more₀ reads₀ room reply out rack kept code more reads = reads
 
--- src/main.rt:142:5
 loop-holds : tie.Need-loop-holds Inv-loop μ-loop
 loop-holds c = search needs
 
--- src/main.rt:143:13
 take-block-requires : tie.Need-take-block-requires Inv-loop μ-loop
 take-block-requires c κs = search needs
 
--- src/main.rt:144:40
 part-to-requires : tie.Need-part-to-requires Inv-loop μ-loop
 part-to-requires c κs = search needs
 
--- src/main.rt:144:13
 take-fields-requires : tie.Need-take-fields-requires Inv-loop μ-loop
 take-fields-requires c κs = search needs
 
--- src/main.rt:147:29
 waits-requires : tie.Need-waits-requires Inv-loop μ-loop
 waits-requires c κs = search needs
 
--- src/main.rt:148:9
 keep-rest-requires : tie.Need-keep-rest-requires Inv-loop μ-loop
 keep-rest-requires c κs = search needs
 
--- src/main.rt:149:9
 sub-reads : tie.Need-sub-reads Inv-loop μ-loop
 sub-reads c = search needs
 
--- src/main.rt:142:5
 loop-less : tie.Need-loop-less Inv-loop μ-loop
 loop-less c = search needs
 
--- src/main.rt:142:5
 loop-again : tie.Need-loop-again Inv-loop μ-loop
 loop-again c = search needs
 
--- src/main.rt:151:22
 waits-requires-2 : tie.Need-waits-requires-2 Inv-loop μ-loop
 waits-requires-2 c κs = search needs
 
--- src/main.rt:136:1
 same-length : tie.Need-same-length Inv-loop μ-loop
 same-length c = search needs
 
--- src/main.rt:136:1
 same-length-2 : tie.Need-same-length-2 Inv-loop μ-loop
 same-length-2 c = search needs
 
--- src/main.rt:136:1
 same-length-3 : tie.Need-same-length-3 Inv-loop μ-loop
 same-length-3 c = search needs
 
--- src/main.rt:136:1
 returns : tie.Need-returns Inv-loop μ-loop
 returns c = search needs
 
--- src/main.rt:136:1
 same-length-4 : tie.Need-same-length-4 Inv-loop μ-loop
 same-length-4 c = search needs
 
--- src/main.rt:136:1
 same-length-5 : tie.Need-same-length-5 Inv-loop μ-loop
 same-length-5 c = search needs
 
--- src/main.rt:136:1
 same-length-6 : tie.Need-same-length-6 Inv-loop μ-loop
 same-length-6 c = search needs
 
--- src/main.rt:136:1
 returns-2 : tie.Need-returns-2 Inv-loop μ-loop
 returns-2 c = search needs
 

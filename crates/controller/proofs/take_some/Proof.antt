@@ -14,61 +14,48 @@ use Rattle.controller.proofs.least.Reads as least-reads
 use Rattle.controller.proofs.next_index.Reads as next-index-reads
 use Rattle.controller.proofs.part_to.Reads as part-to-reads
 use Rattle.feed.proofs.feed.Reads as feed-reads
-use Rattle.feed.proofs.part_from.Reads as part-from-reads
+use Rattle.base.proofs.part_from.Reads as part-from-reads
 use Rattle.rack.proofs.call.Reads as call-reads
 
--- src/main.rt:89:9
 next-index-requires : tie.Need-next-index-requires
 next-index-requires c κs = search needs
 
--- src/main.rt:90:9
 feed-requires : tie.Need-feed-requires
 feed-requires c κs = search needs
 
--- src/main.rt:91:9
 part-from-requires : tie.Need-part-from-requires
 part-from-requires c κs = search needs
 
--- src/main.rt:93:9
 call-requires : tie.Need-call-requires
 call-requires c κs = search needs
 
--- src/main.rt:94:9
 next-index-requires-2 : tie.Need-next-index-requires-2
 next-index-requires-2 c κs = search needs
 
--- src/main.rt:95:42
 part-to-requires : tie.Need-part-to-requires
 part-to-requires c κs = search needs
 
--- src/main.rt:95:9
 put-text-requires : tie.Need-put-text-requires
 put-text-requires c κs = search needs
 
--- src/main.rt:96:9
 least-requires : tie.Need-least-requires
 least-requires c κs = search needs
 
--- src/main.rt:101:26
 sub-t31 : tie.Need-sub-t31
 sub-t31 c = search needs
 
--- src/main.rt:101:15
 sub-t32 : tie.Need-sub-t32
 sub-t32 c =
     let e = c .before .before .before .before .before .before .before .before .before .before .before .before .before .before .before .before .before .part-from .ensures in
     let k = ap length e ∙ length-drop (c .before .before .before .before .before .before .before .before .before .before .before .before .before .before .before .before .before .before .before .before .feed .result .used) (c .before .before .before .before .before .before .before .before .before .before .before .before .before .before .before .before .before .before .before .before .before .before .before .before .before .before .before .before .before .args .s .now) in
     omega (arith, k)
 
--- src/main.rt:86:1
 same-length : tie.Need-same-length
 same-length c = search needs
 
--- src/main.rt:86:1
 same-length-2 : tie.Need-same-length-2
 same-length-2 c = search needs
 
--- src/main.rt:86:1
 returns : tie.Need-returns
 returns c =
     let e = c .before .before .before .before .before .before .before .before .before .before .before .before .before .before .before .before .before .part-from .ensures in

@@ -20,7 +20,7 @@ use Rattle.feed.proofs.feed.Statement.{statement}
 use Rattle.feed.proofs.feed.Tie as tie
 use Rattle.feed.proofs.feed.Reads as reads
 use Rattle.feed.proofs.feed.Lts as lts
-use Rattle.feed.proofs.part_from.Reads as part-from-reads
+use Rattle.base.proofs.part_from.Reads as part-from-reads
 use Rattle.feed.proofs.slot_reached.Reads as slot-reached-reads
 use Rattle.feed.proofs.take_field.Reads as take-field-reads
 
@@ -31,39 +31,30 @@ Inv-loop s out₀ at full setup slots₀ line₀ used₀ next₀ going₀ out sl
 abbrev μ-loop : tie.MeasureT-loop
 μ-loop s out₀ at full setup slots₀ line₀ used₀ next₀ going₀ out slots line used next going = length s - used + bit going
 
--- src/lib.rt:175:5
 loop-holds : tie.Need-loop-holds Inv-loop μ-loop
 loop-holds c = (search needs, refl, simp length-map at (c .before .before .before .before .before .good .0 .1 .1 .0 .1 .0 .1), λ h. fed-none _ _ _ _ _ _ _ h, λ i t. i)
 
--- src/lib.rt:176:13
 part-from-requires : tie.Need-part-from-requires Inv-loop μ-loop
 part-from-requires c κs = search needs
 
--- src/lib.rt:177:13
 slot-reached-requires : tie.Need-slot-reached-requires Inv-loop μ-loop
 slot-reached-requires c κs = search needs
 
--- src/lib.rt:178:44
 mul-take-field : tie.Need-mul-take-field Inv-loop μ-loop
 mul-take-field c = search needs
 
--- src/lib.rt:178:44
 array-copy-out-take-field : tie.Need-array-copy-out-take-field Inv-loop μ-loop
 array-copy-out-take-field c = search needs
 
--- src/lib.rt:178:13
 take-field-requires : tie.Need-take-field-requires Inv-loop μ-loop
 take-field-requires c κs = search needs
 
--- src/lib.rt:180:9
 mul-slots : tie.Need-mul-slots Inv-loop μ-loop
 mul-slots c = search needs
 
--- src/lib.rt:180:9
 array-set-from-slots : tie.Need-array-set-from-slots Inv-loop μ-loop
 array-set-from-slots c = search needs
 
--- src/lib.rt:184:9
 add-used : tie.Need-add-used Inv-loop μ-loop
 add-used c =
     let l = c .before .before .before .before .before .before .before .before .before .before .before in
@@ -72,7 +63,6 @@ add-used c =
     let m : l .loop .used + c .before .before .before .before .before .take-field .result .used ≤ length s = omega (arith, k, l .loop .inv .0) in
     search needs
 
--- src/lib.rt:175:5
 loop-less : tie.Need-loop-less Inv-loop μ-loop
 loop-less c =
     let l = c .before .before .before .before .before .before .before .before .before .before .before .before .before in
@@ -80,7 +70,6 @@ loop-less c =
     let k : c .before .before .before .before .before .before .before .take-field .result .used ≤ length s - l .loop .used = rw (← length-drop (l .loop .used) s, ← c .before .before .before .before .before .before .before .before .before .before .before .part-from .ensures) (c .before .before .before .before .before .before .before .take-field .ensures .0) in
     spent (length s) (l .loop .used) (c .before .before .before .before .before .before .before .take-field .result .used) (l .loop .going) (ltb 0 (c .before .before .before .before .before .before .before .take-field .result .used) && ltb (c .before .before .before .before .before .before .before .take-field .result .next) (c .before .before .before .before .before .before .before .before .before .before .before .before .before .before .before .before .before .before .before .args .full)) (l .loop .inv .0) k (c .before .before .before .before .before .before .before .before .before .before .before .before .loop-test .taken) (λ e. ltb-true 0 (c .before .before .before .before .before .before .before .take-field .result .used) (and-both (ltb 0 (c .before .before .before .before .before .before .before .take-field .result .used)) (ltb (c .before .before .before .before .before .before .before .take-field .result .next) (c .before .before .before .before .before .before .before .before .before .before .before .before .before .before .before .before .before .before .before .args .full)) e .0))
 
--- src/lib.rt:175:5
 loop-again : tie.Need-loop-again Inv-loop μ-loop
 loop-again c =
     let l = c .before .before .before .before .before .before .before .before .before .before .before .before .before in
@@ -100,11 +89,9 @@ loop-again c =
       λ i t. let less = ltb-true (c .before .before .before .before .before .before .before .take-field .result .next) (z .full) (and-both (ltb 0 (c .before .before .before .before .before .before .before .take-field .result .used)) (ltb (c .before .before .before .before .before .before .before .take-field .result .next) (z .full)) t .1) in omega (arith, less),
     )
 
--- src/lib.rt:166:1
 same-length : tie.Need-same-length Inv-loop μ-loop
 same-length c = search needs
 
--- src/lib.rt:166:1
 returns : tie.Need-returns Inv-loop μ-loop
 returns c = c .before .loop .inv .3
 

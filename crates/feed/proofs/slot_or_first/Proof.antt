@@ -11,11 +11,9 @@ use Rattle.feed.proofs.slot_or_first.Reads as reads
 use Rattle.feed.proofs.slot_or_first.Lts as lts
 use Rattle.serial.proofs.has_supply.Reads as has-supply-reads
 
--- src/lib.rt:151:8
 has-supply-requires : tie.Need-has-supply-requires
 has-supply-requires c κs = search needs
 
--- src/lib.rt:148:1
 returns : tie.Need-returns
 returns c =
     let z = c .before .before .args in
@@ -23,7 +21,6 @@ returns c =
     let n : length (z .u .models) ≡ 31 = search needs in
     (omega (arith, n, fitted-below (z .u) (z .a) f), λ q. refl)
 
--- src/lib.rt:148:1
 returns-2 : tie.Need-returns-2
 returns-2 c = (omega arith, λ q. absurd (true≢false (sym q ∙ sym (c .before .has-supply .ensures) ∙ c .if1 .left)))
 

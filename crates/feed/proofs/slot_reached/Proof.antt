@@ -9,27 +9,21 @@ use Rattle.feed.proofs.slot_reached.Lts as lts
 use Rattle.feed.proofs.slot_or_first.Reads as slot-or-first-reads
 use Rattle.field.proofs.byte_at.Reads as byte-at-reads
 
--- src/lib.rt:162:8
 byte-at-requires : tie.Need-byte-at-requires
 byte-at-requires c κs = search needs
 
--- src/lib.rt:163:9
 slot-or-first-requires : tie.Need-slot-or-first-requires
 slot-or-first-requires c κs = search needs
 
--- src/lib.rt:165:26
 byte-at-requires-2 : tie.Need-byte-at-requires-2
 byte-at-requires-2 c κs = search needs
 
--- src/lib.rt:165:9
 slot-or-first-requires-2 : tie.Need-slot-or-first-requires-2
 slot-or-first-requires-2 c κs = search needs
 
--- src/lib.rt:159:1
 returns : tie.Need-returns
 returns c = (c .slot-or-first .ensures .0, reached-by-line _ (c .before .before .before .before .args .l) _ _ (sym (c .before .before .byte-at .ensures) ∙ c .before .if1 .taken) (c .slot-or-first .ensures .1))
 
--- src/lib.rt:159:1
 returns-2 : tie.Need-returns-2
 returns-2 c =
     (c .slot-or-first2 .ensures .0, reached-by-name _ (c .before .before .before .before .before .args .l) _ _ (λ e. c .before .before .if1 .left (c .before .before .before .byte-at .ensures ∙ e)) (rw (c .before .byte-at2 .ensures) at (c .slot-or-first2 .ensures .1)))

@@ -20,43 +20,34 @@ Inv-loop p line₀ i₀ line i = (i ≤ length p) × (line₀ .count ≤ 64 → 
 abbrev μ-loop : tie.MeasureT-loop
 μ-loop p line₀ i₀ line i = length p - i
 
--- src/lib.rt:64:5
 loop-holds : tie.Need-loop-holds Inv-loop μ-loop
 loop-holds c = (search needs, λ h. typing-none _ h)
 
--- src/lib.rt:64:26
 shared-slice-read-if1 : tie.Need-shared-slice-read-if1 Inv-loop μ-loop
 shared-slice-read-if1 c = search needs
 
--- src/lib.rt:65:40
 shared-slice-read-take-char : tie.Need-shared-slice-read-take-char Inv-loop μ-loop
 shared-slice-read-take-char c = search needs
 
--- src/lib.rt:65:9
 take-char-requires : tie.Need-take-char-requires Inv-loop μ-loop
 take-char-requires c κs = search needs
 
--- src/lib.rt:66:9
 add-i : tie.Need-add-i Inv-loop μ-loop
 add-i c = search needs
 
--- src/lib.rt:64:5
 loop-less : tie.Need-loop-less Inv-loop μ-loop
 loop-less c = search needs
 
--- src/lib.rt:64:5
 loop-again : tie.Need-loop-again Inv-loop μ-loop
 loop-again c =
     let l = c .before .before .before .before .before in
     (search needs, λ h. typing-more _ (l .loop .line) _ _ (l .loop .i) (c .before .before .before .before .loop-test .taken) (not-true (eqb (getD (l .before .before .args .p .now) (l .loop .i) 0) 13) (c .before .before .if1 .taken)) (l .loop .inv .1 h) (c .take-char .ensures))
 
--- src/lib.rt:59:1
 returns : tie.Need-returns Inv-loop μ-loop
 returns c =
     let l = c .before .before .before in
     (l .loop .inv .0, λ h. eqb-true (getD (l .before .before .args .p .now) (l .loop .i) 0) 13 (not-false (eqb (getD (l .before .before .args .p .now) (l .loop .i) 0) 13) (c .if1 .left)), l .loop .inv .1)
 
--- src/lib.rt:59:1
 returns-2 : tie.Need-returns-2 Inv-loop μ-loop
 returns-2 c = (c .before .loop .inv .0, λ h. absurd (omega (arith, c .loop-test .left)), c .before .loop .inv .1)
 

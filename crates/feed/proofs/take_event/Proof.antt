@@ -15,47 +15,36 @@ use Rattle.field.proofs.values_fit.Reads as values-fit-reads
 use Rattle.serial.proofs.has_supply.Reads as has-supply-reads
 use Rattle.serial.proofs.model_at.Reads as model-at-reads
 
--- src/lib.rt:112:9
 byte-at-requires : tie.Need-byte-at-requires
 byte-at-requires c κs = search needs
 
--- src/lib.rt:113:9
 has-supply-requires : tie.Need-has-supply-requires
 has-supply-requires c κs = search needs
 
--- src/lib.rt:114:9
 untaken-requires : tie.Need-untaken-requires
 untaken-requires c κs = search needs
 
--- src/lib.rt:114:9
 returns : tie.Need-returns
 returns c = inl (c .untaken .ensures)
 
--- src/lib.rt:116:9
 values-fit-requires : tie.Need-values-fit-requires
 values-fit-requires c κs = search needs
 
--- src/lib.rt:117:9
 untaken-requires-2 : tie.Need-untaken-requires-2
 untaken-requires-2 c κs = search needs
 
--- src/lib.rt:117:9
 returns-2 : tie.Need-returns-2
 returns-2 c = inl (c .untaken2 .ensures)
 
--- src/lib.rt:119:30
 model-at-requires : tie.Need-model-at-requires
 model-at-requires c κs = search needs
 
--- src/lib.rt:119:57
 act-of-requires : tie.Need-act-of-requires
 act-of-requires c κs = search needs
 
--- src/lib.rt:119:9
 perform-requires : tie.Need-perform-requires
 perform-requires c κs = search needs
 
--- src/lib.rt:109:1
 returns-3 : tie.Need-returns-3
 returns-3 c =
     inr

@@ -15,50 +15,40 @@ use Rattle.feed.proofs.untaken.Reads as untaken-reads
 use Rattle.field.proofs.payload.Reads as payload-reads
 use Rattle.field.proofs.read_header.Reads as read-header-reads
 
--- src/lib.rt:133:9
 read-header-requires : tie.Need-read-header-requires
 read-header-requires c κs = search needs
 
--- src/lib.rt:136:9
 untaken-requires : tie.Need-untaken-requires
 untaken-requires c κs = search needs
 
--- src/lib.rt:136:9
 returns : tie.Need-returns
 returns c =
     let z = c .before .before .before .before .before .before .args in
     not-taken (z .u) (z .l) (z .s) (now (z .b)) (now (z .buf)) (z .at) _ _ (c .untaken .ensures, refl)
 
--- src/lib.rt:138:9
 payload-requires : tie.Need-payload-requires
 payload-requires c κs =
     rw (c .before .before .read-header .ensures .2) (header-good _ (sym (c .before .before .read-header .ensures .0) ∙ c .if1 .left) .0)
 
--- src/lib.rt:139:16
 add-used : tie.Need-add-used
 add-used c =
     omega (arith, c .before .before .before .before .read-header .ensures .2, header-good _ (sym (c .before .before .before .before .read-header .ensures .0) ∙ c .before .before .if1 .left) .0)
 
--- src/lib.rt:141:9
 take-serial-requires : tie.Need-take-serial-requires
 take-serial-requires c κs = search needs
 
--- src/lib.rt:141:9
 same-length : tie.Need-same-length
 same-length c = search needs
 
--- src/lib.rt:141:9
 returns-2 : tie.Need-returns-2
 returns-2 c =
     let z = c .before .before .before .before .before .before .before .before .before .before .before .before .args in
     let h = c .before .before .before .before .before .before .before .before .before .read-header .ensures in
     serial-takes (z .u) (z .l) (z .s) (now (z .b)) (now (z .buf)) (z .at) (sym (h .0) ∙ c .before .before .before .before .before .before .before .if1 .left) _ (c .before .before .before .before .before .before .payload .ensures ∙ rw (h .2) refl) _ (rw (h .2) refl) _ _ (sym (h .1) ∙ c .before .before .before .before .if2 .taken) (c .before .before .take-serial .ensures)
 
--- src/lib.rt:143:5
 take-event-requires : tie.Need-take-event-requires
 take-event-requires c κs = search needs
 
--- src/lib.rt:130:1
 returns-3 : tie.Need-returns-3
 returns-3 c =
     let z = c .before .before .before .before .before .before .before .before .before .args in

@@ -16,49 +16,38 @@ use Rattle.slots.proofs.end_one.Reads as end-one-reads
 measured-requires : tie.Need-measured-requires
 measured-requires c κs = search needs
 
--- src/lib.rt:83:9
 take-chars-requires : tie.Need-take-chars-requires
 take-chars-requires c κs = search needs
 
--- src/lib.rt:87:9
 returns : tie.Need-returns
 returns c =
     let z = c .before .before .before .before .before .before .args in
     no-line (z .u) (z .l) (z .s) (now (z .p)) (z .used) (now (z .buf)) (z .at) (c .before .before .take-chars .result) (c .before .before .take-chars .ensures) (c .if1 .taken)
 
--- src/lib.rt:94:8
 add-if2 : tie.Need-add-if2
 add-if2 c = search needs
 
--- src/lib.rt:95:9
 untaken-requires : tie.Need-untaken-requires
 untaken-requires c κs = search needs
 
--- src/lib.rt:95:9
 returns-2 : tie.Need-returns-2
 returns-2 c = inl (c .untaken .ensures, refl)
 
--- src/lib.rt:97:9
 end-one-requires : tie.Need-end-one-requires
 end-one-requires c κs = search needs
 
--- src/lib.rt:99:9
 untaken-requires-2 : tie.Need-untaken-requires-2
 untaken-requires-2 c κs = search needs
 
--- src/lib.rt:99:9
 same-length : tie.Need-same-length
 same-length c = search needs
 
--- src/lib.rt:99:9
 returns-3 : tie.Need-returns-3
 returns-3 c = inl (c .untaken2 .ensures, c .before .before .before .before .end-one .ensures .1 (c .before .if3 .taken) .1)
 
--- src/lib.rt:72:1
 same-length-2 : tie.Need-same-length-2
 same-length-2 c = search needs
 
--- src/lib.rt:72:1
 returns-4 : tie.Need-returns-4
 returns-4 c =
     let z = c .before .before .before .before .before .before .before .before .before .before .before .before .before .before .args in

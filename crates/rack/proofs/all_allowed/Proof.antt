@@ -17,29 +17,23 @@ Inv-loop list good₀ i₀ good i = (i ≤ length list) × (good ≡ allAllowed 
 abbrev μ-loop : tie.MeasureT-loop
 μ-loop list good₀ i₀ good i = length list - i
 
--- src/lib.rt:309:5
 loop-holds : tie.Need-loop-holds Inv-loop μ-loop
 loop-holds c = (search needs, allowed-none)
 
--- src/lib.rt:310:17
 shared-slice-read-m : tie.Need-shared-slice-read-m Inv-loop μ-loop
 shared-slice-read-m c = search needs
 
--- src/lib.rt:312:9
 add-i : tie.Need-add-i Inv-loop μ-loop
 add-i c = search needs
 
--- src/lib.rt:309:5
 loop-less : tie.Need-loop-less Inv-loop μ-loop
 loop-less c = search needs
 
--- src/lib.rt:309:5
 loop-again : tie.Need-loop-again Inv-loop μ-loop
 loop-again c =
     let l = c .before .before in
     (search needs, allowed-more _ (l .loop .i) _ (c .before .loop-test .taken) (l .loop .inv .1))
 
--- src/lib.rt:304:1
 returns : tie.Need-returns Inv-loop μ-loop
 returns c = allowed-all _ (c .before .loop .i) _ (c .loop-test .left) (c .before .loop .inv .1)
 

@@ -15,47 +15,37 @@ use Rattle.rack.proofs.call_event.Reads as call-event-reads
 use Rattle.rack.proofs.refuse.Reads as refuse-reads
 use Rattle.slots.proofs.take_serial.Reads as take-serial-reads
 
--- src/lib.rt:272:9
 refuse-requires : tie.Need-refuse-requires
 refuse-requires c κs = search needs
 
--- src/lib.rt:272:9
 returns : tie.Need-returns
 returns c =
     let z = c .before .before .before .before .args in
     short-buffer (z .r) (now (z .bytes)) (now (z .reply)) _ (c .before .if1 .taken) (c .refuse .ensures)
 
--- src/lib.rt:274:9
 read-header-requires : tie.Need-read-header-requires
 read-header-requires c κs = search needs
 
--- src/lib.rt:278:9
 refuse-requires-2 : tie.Need-refuse-requires-2
 refuse-requires-2 c κs = search needs
 
--- src/lib.rt:278:9
 returns-2 : tie.Need-returns-2
 returns-2 c =
     let z = c .before .before .before .before .before .before .args in
     long-buffer (z .r) (now (z .bytes)) (now (z .reply)) _ _ (c .before .before .before .if1 .left) (bad-header (z .r) (now (z .bytes)) (now (z .reply)) _ _ (c .before .before .read-header .ensures .0) (c .before .if2 .taken) (c .refuse2 .ensures))
 
--- src/lib.rt:280:9
 payload-requires : tie.Need-payload-requires
 payload-requires c κs = rw (c .before .read-header .ensures .2) (header-good _ (sym (c .before .read-header .ensures .0) ∙ c .if2 .left) .0)
 
--- src/lib.rt:281:16
 add-used : tie.Need-add-used
 add-used c = omega (arith, c .before .before .before .read-header .ensures .2, header-good _ (sym (c .before .before .before .read-header .ensures .0) ∙ c .before .before .if2 .left) .0)
 
--- src/lib.rt:283:13
 take-serial-requires : tie.Need-take-serial-requires
 take-serial-requires c κs = search needs
 
--- src/lib.rt:286:9
 same-length : tie.Need-same-length
 same-length c = search needs
 
--- src/lib.rt:286:9
 returns-3 : tie.Need-returns-3
 returns-3 c =
     let t = c .before .before .before in
@@ -65,11 +55,9 @@ returns-3 c =
     long-buffer (z .r) (now (z .bytes)) (now (z .reply)) _ _ (h .before .if1 .left)
     (serial-done (z .r) (now (z .bytes)) (now (z .reply)) good _ _ (t .take-serial .result .rack) (t .take-serial .result .next) _ (h .before .if1 .left) (sym (h .read-header .ensures .1) ∙ t .before .before .if3 .taken) (t .before .before .before .before .payload .ensures ∙ rw (h .read-header .ensures .2) refl) (rw (h .read-header .ensures .2) refl) (t .take-serial .ensures .0) (t .take-serial .ensures .1))
 
--- src/lib.rt:293:5
 call-event-requires : tie.Need-call-event-requires
 call-event-requires c κs = search needs
 
--- src/lib.rt:268:1
 returns-4 : tie.Need-returns-4
 returns-4 c =
     let h = c .before .before .before .before .before in

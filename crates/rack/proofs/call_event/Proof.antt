@@ -14,45 +14,35 @@ use Rattle.rack.proofs.refuse.Reads as refuse-reads
 use Rattle.slots.proofs.take_event.Reads as take-event-reads
 use Rattle.serial.proofs.has_supply.Reads as has-supply-reads
 
--- src/lib.rt:251:9
 byte-at-requires : tie.Need-byte-at-requires
 byte-at-requires c κs = search needs
 
--- src/lib.rt:252:9
 has-supply-requires : tie.Need-has-supply-requires
 has-supply-requires c κs = search needs
 
--- src/lib.rt:253:9
 refuse-requires : tie.Need-refuse-requires
 refuse-requires c κs = search needs
 
--- src/lib.rt:253:9
 returns : tie.Need-returns
 returns c =
     λ bytes b good t et ep eu. empty-slot _ bytes b good _ t (rw (← ep) (rw (← c .before .before .before .byte-at .ensures) (sym (c .before .before .has-supply .ensures) ∙ not-true _ (c .before .if1 .taken)))) (c .refuse .ensures)
 
--- src/lib.rt:255:9
 values-fit-requires : tie.Need-values-fit-requires
 values-fit-requires c κs = search needs
 
--- src/lib.rt:256:9
 refuse-requires-2 : tie.Need-refuse-requires-2
 refuse-requires-2 c κs = search needs
 
--- src/lib.rt:256:9
 returns-2 : tie.Need-returns-2
 returns-2 c =
     λ bytes b good t et ep eu. bad-value _ bytes b good _ t (rw (← ep) (rw (← c .before .before .before .before .before .byte-at .ensures) (sym (c .before .before .before .before .has-supply .ensures) ∙ not-false _ (c .before .before .before .if1 .left)))) (rw (← et, ← ep) (sym (c .before .before .values-fit .ensures) ∙ not-true _ (c .before .if2 .taken))) (c .refuse2 .ensures)
 
--- src/lib.rt:258:33
 act-of-requires : tie.Need-act-of-requires
 act-of-requires c κs = search needs
 
--- src/lib.rt:258:9
 take-event-requires : tie.Need-take-event-requires
 take-event-requires c κs = search needs
 
--- src/lib.rt:247:1
 returns-3 : tie.Need-returns-3
 returns-3 c =
     λ bytes b good t et ep eu. rw eu (event-done (c .before .before .before .before .before .before .before .before .before .args .r) bytes b good (c .take-event .result) t (rw (← ep) (rw (← c .before .before .before .before .before .before .byte-at .ensures) (sym (c .before .before .before .before .before .has-supply .ensures) ∙ not-false _ (c .before .before .before .before .if1 .left)))) (rw (← et, ← ep) (sym (c .before .before .before .values-fit .ensures) ∙ not-false _ (c .before .before .if2 .left))) (rw (← et, ← ep) (rw (← c .before .before .before .before .before .before .byte-at .ensures, ← c .before .act-of .ensures) (c .take-event .ensures))))

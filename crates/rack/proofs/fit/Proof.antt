@@ -9,27 +9,21 @@ use Rattle.rack.proofs.all_allowed.Reads as all-allowed-reads
 use Rattle.rack.proofs.fresh_rack.Reads as fresh-rack-reads
 use Rattle.rack.proofs.models_of.Reads as models-of-reads
 
--- src/lib.rt:351:29
 all-allowed-requires : tie.Need-all-allowed-requires
 all-allowed-requires c κs = search needs
 
--- src/lib.rt:354:30
 models-of-requires : tie.Need-models-of-requires
 models-of-requires c κs = search needs
 
--- src/lib.rt:354:19
 fresh-rack-requires : tie.Need-fresh-rack-requires
 fresh-rack-requires c κs = search needs
 
--- src/lib.rt:359:19
 fresh-rack-requires-2 : tie.Need-fresh-rack-requires-2
 fresh-rack-requires-2 c κs = search needs
 
--- src/lib.rt:348:1
 returns : tie.Need-returns
 returns c = good-fit _ _ (c .before .before .before .all-allowed .ensures) (c .fresh-rack .result) _ (c .before .before .if1 .taken) (c .before .models-of .ensures) (c .fresh-rack .ensures)
 
--- src/lib.rt:348:1
 returns-2 : tie.Need-returns-2
 returns-2 c = bad-fit _ _ (c .before .before .all-allowed .ensures) (c .fresh-rack2 .result) (c .before .if1 .left) (c .fresh-rack2 .ensures)
 

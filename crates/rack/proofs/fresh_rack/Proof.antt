@@ -20,49 +20,38 @@ Inv-loop models slots₀ i₀ slots i = (i ≤ 31) × (length slots₀ ≡ 31) �
 abbrev μ-loop : tie.MeasureT-loop
 μ-loop models slots₀ i₀ slots i = 31 - i
 
--- src/lib.rt:334:22
 fresh-supply-requires : tie.Need-fresh-supply-requires Inv-loop μ-loop
 fresh-supply-requires c κs = search needs
 
--- src/lib.rt:336:5
 loop-holds : tie.Need-loop-holds Inv-loop μ-loop
 loop-holds c = search needs
 
--- src/lib.rt:337:41
 array-read-fresh-supply : tie.Need-array-read-fresh-supply Inv-loop μ-loop
 array-read-fresh-supply c = search needs
 
--- src/lib.rt:337:20
 fresh-supply-requires-2 : tie.Need-fresh-supply-requires-2 Inv-loop μ-loop
 fresh-supply-requires-2 c κs = search needs
 
--- src/lib.rt:337:9
 mul-slots : tie.Need-mul-slots Inv-loop μ-loop
 mul-slots c = search needs
 
--- src/lib.rt:337:9
 array-set-from-slots : tie.Need-array-set-from-slots Inv-loop μ-loop
 array-set-from-slots c = search needs
 
--- src/lib.rt:338:9
 add-i : tie.Need-add-i Inv-loop μ-loop
 add-i c = search needs
 
--- src/lib.rt:336:5
 loop-less : tie.Need-loop-less Inv-loop μ-loop
 loop-less c = search needs
 
--- src/lib.rt:336:5
 loop-again : tie.Need-loop-again Inv-loop μ-loop
 loop-again c =
     let l = c .before .before in
     (search needs, l .loop .inv .1, fresh-again (l .before .before .args .t1) _ (l .loop .i) _ _ _ (search needs) (l .loop .inv .2) (c .fresh-supply2 .ensures))
 
--- src/lib.rt:342:15
 fresh-line-requires : tie.Need-fresh-line-requires Inv-loop μ-loop
 fresh-line-requires c κs = search needs
 
--- src/lib.rt:331:1
 returns : tie.Need-returns Inv-loop μ-loop
 returns c =
     let l = c .before .before in

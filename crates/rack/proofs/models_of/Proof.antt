@@ -19,33 +19,26 @@ Inv-loop list models₀ i₀ models i = (i ≤ 31) × (length models₀ ≡ 31) 
 abbrev μ-loop : tie.MeasureT-loop
 μ-loop list models₀ i₀ models i = 31 - i
 
--- src/lib.rt:323:5
 loop-holds : tie.Need-loop-holds Inv-loop μ-loop
 loop-holds c = search needs
 
--- src/lib.rt:324:21
 byte-at-requires : tie.Need-byte-at-requires Inv-loop μ-loop
 byte-at-requires c κs = search needs
 
--- src/lib.rt:324:9
 array-write-models : tie.Need-array-write-models Inv-loop μ-loop
 array-write-models c = search needs
 
--- src/lib.rt:325:9
 add-i : tie.Need-add-i Inv-loop μ-loop
 add-i c = search needs
 
--- src/lib.rt:323:5
 loop-less : tie.Need-loop-less Inv-loop μ-loop
 loop-less c = search needs
 
--- src/lib.rt:323:5
 loop-again : tie.Need-loop-again Inv-loop μ-loop
 loop-again c =
     let l = c .before .before in
     (search needs, l .loop .inv .1, eachTo-again _ (l .loop .i) _ _ 0 _ (l .loop .inv .2) (c .byte-at .ensures))
 
--- src/lib.rt:318:1
 returns : tie.Need-returns Inv-loop μ-loop
 returns c = λ n. models-are _ _ _ (c .before .loop .i) (c .before .loop .inv .0) (c .loop-test .left) (c .before .loop .inv .1) (c .before .loop .inv .2) n
 

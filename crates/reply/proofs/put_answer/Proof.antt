@@ -9,57 +9,44 @@ use Rattle.figures.proofs.put_figure.Reads as put-figure-reads
 use Rattle.figures.proofs.put_hex.Reads as put-hex-reads
 use Rattle.reply.proofs.put_word.Reads as put-word-reads
 
--- src/lib.rt:52:24
 enum-known-a : tie.Need-enum-known-a
 enum-known-a c = search needs
 
--- src/lib.rt:52:62
 cast-put-figure : tie.Need-cast-put-figure
 cast-put-figure c = search needs
 
--- src/lib.rt:52:33
 put-figure-requires : tie.Need-put-figure-requires
 put-figure-requires c κs = search needs
 
--- src/lib.rt:53:22
 enum-known-a-2 : tie.Need-enum-known-a-2
 enum-known-a-2 c = search needs
 
--- src/lib.rt:53:28
 put-word-requires : tie.Need-put-word-requires
 put-word-requires c κs = search needs
 
--- src/lib.rt:54:21
 enum-known-a-3 : tie.Need-enum-known-a-3
 enum-known-a-3 c = search needs
 
--- src/lib.rt:54:27
 put-hex-requires : tie.Need-put-hex-requires
 put-hex-requires c κs = search needs
 
--- src/lib.rt:48:1
 same-length : tie.Need-same-length
 same-length c = search needs
 
--- src/lib.rt:48:1
 returns : tie.Need-returns
 unfolding answerText
 returns c = rw (c .before .before .before .before .before .a .given .1) (c .before .before .put-figure .ensures)
 
--- src/lib.rt:48:1
 same-length-2 : tie.Need-same-length-2
 same-length-2 c = search needs
 
--- src/lib.rt:48:1
 returns-2 : tie.Need-returns-2
 unfolding answerText
 returns-2 c = rw (c .before .before .before .before .before .a2 .given .1) (c .before .before .put-word .ensures)
 
--- src/lib.rt:48:1
 same-length-3 : tie.Need-same-length-3
 same-length-3 c = search needs
 
--- src/lib.rt:48:1
 returns-3 : tie.Need-returns-3
 unfolding answerText
 returns-3 c = rw (c .before .before .before .before .before .a3 .given .1) (c .before .before .put-hex .ensures)

@@ -8,19 +8,15 @@ use Rattle.reply.proofs.put_answer_reply.Lts as lts
 use Rattle.reply.proofs.put_answer.Reads as put-answer-reads
 use Rattle.reply.proofs.put_end.Reads as put-end-reads
 
--- src/lib.rt:88:9
 put-answer-requires : tie.Need-put-answer-requires
 put-answer-requires c κs = search needs
 
--- src/lib.rt:89:5
 put-end-requires : tie.Need-put-end-requires
 put-end-requires c κs = search needs
 
--- src/lib.rt:85:1
 same-length : tie.Need-same-length
 same-length c = search needs
 
--- src/lib.rt:85:1
 returns : tie.Need-returns
 returns c = put-reply _ _ (c .before .before .before .before .before .before .put-answer .ensures) (c .before .before .put-end .ensures)
 

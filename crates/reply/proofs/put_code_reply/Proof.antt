@@ -8,19 +8,15 @@ use Rattle.reply.proofs.put_code_reply.Lts as lts
 use Rattle.reply.proofs.put_code.Reads as put-code-reads
 use Rattle.reply.proofs.put_end.Reads as put-end-reads
 
--- src/lib.rt:80:9
 put-code-requires : tie.Need-put-code-requires
 put-code-requires c κs = search needs
 
--- src/lib.rt:81:5
 put-end-requires : tie.Need-put-end-requires
 put-end-requires c κs = search needs
 
--- src/lib.rt:77:1
 same-length : tie.Need-same-length
 same-length c = search needs
 
--- src/lib.rt:77:1
 returns : tie.Need-returns
 returns c = put-reply _ _ (c .before .before .before .before .before .before .put-code .ensures) (c .before .before .put-end .ensures)
 

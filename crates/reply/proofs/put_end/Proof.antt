@@ -10,55 +10,42 @@ use Rattle.base.proofs.put_byte.Reads as put-byte-reads
 use Rattle.figures.proofs.put_hex.Reads as put-hex-reads
 use Rattle.figures.proofs.sum.Reads as sum-reads
 
--- src/lib.rt:64:9
 returns : tie.Need-returns
 returns c = put-full _ _ _ (c .if1 .taken)
 
--- src/lib.rt:67:30
 sub-sum : tie.Need-sub-sum
 sub-sum c = search needs
 
--- src/lib.rt:67:30
 part-sum-start : tie.Need-part-sum-start
 part-sum-start c = search needs
 
--- src/lib.rt:67:30
 part-sum-end : tie.Need-part-sum-end
 part-sum-end c = search needs
 
--- src/lib.rt:67:13
 sum-requires : tie.Need-sum-requires
 sum-requires c κs = search needs
 
--- src/lib.rt:68:13
 put-byte-requires : tie.Need-put-byte-requires
 put-byte-requires c κs = search needs
 
--- src/lib.rt:69:13
 put-hex-requires : tie.Need-put-hex-requires
 put-hex-requires c κs = search needs
 
--- src/lib.rt:70:9
 put-byte-requires-2 : tie.Need-put-byte-requires-2
 put-byte-requires-2 c κs = search needs
 
--- src/lib.rt:72:9
 put-byte-requires-3 : tie.Need-put-byte-requires-3
 put-byte-requires-3 c κs = search needs
 
--- src/lib.rt:59:1
 same-length : tie.Need-same-length
 same-length c = search needs
 
--- src/lib.rt:59:1
 returns-2 : tie.Need-returns-2
 returns-2 c = put-summed-end _ _ (c .before .before .before .before .before .before .before .before .before .before .before .before .before .before .before .if2 .taken) _ (c .before .before .before .before .before .before .before .before .before .before .before .before .sum .ensures) (c .before .before .before .before .before .before .before .before .before .before .put-byte .ensures) (c .before .before .before .before .before .before .put-hex .ensures) (c .before .before .put-byte2 .ensures)
 
--- src/lib.rt:59:1
 same-length-2 : tie.Need-same-length-2
 same-length-2 c = search needs
 
--- src/lib.rt:59:1
 returns-3 : tie.Need-returns-3
 returns-3 c = put-bare-end _ _ (c .before .before .before .before .if2 .left) (c .before .before .put-byte3 .ensures)
 

@@ -9,125 +9,96 @@ use Rattle.acts.proofs.answer_to.Reads as answer-to-reads
 use Rattle.reply.proofs.put_answer_reply.Reads as put-answer-reply-reads
 use Rattle.reply.proofs.put_code_reply.Reads as put-code-reply-reads
 
--- src/lib.rt:98:18
 enum-known-a : tie.Need-enum-known-a
 enum-known-a c = search needs
 
--- src/lib.rt:98:50
 answer-to-requires : tie.Need-answer-to-requires
 answer-to-requires c κs = search needs
 
--- src/lib.rt:98:24
 put-answer-reply-requires : tie.Need-put-answer-reply-requires
 put-answer-reply-requires c κs = search needs
 
--- src/lib.rt:99:40
 enum-told : tie.Need-enum-told
 enum-told c = search needs
 
--- src/lib.rt:99:25
 put-code-reply-requires : tie.Need-put-code-reply-requires
 put-code-reply-requires c κs = search needs
 
--- src/lib.rt:100:41
 enum-told-2 : tie.Need-enum-told-2
 enum-told-2 c = search needs
 
--- src/lib.rt:100:26
 put-code-reply-requires-2 : tie.Need-put-code-reply-requires-2
 put-code-reply-requires-2 c κs = search needs
 
--- src/lib.rt:101:45
 enum-told-3 : tie.Need-enum-told-3
 enum-told-3 c = search needs
 
--- src/lib.rt:101:30
 put-code-reply-requires-3 : tie.Need-put-code-reply-requires-3
 put-code-reply-requires-3 c κs = search needs
 
--- src/lib.rt:102:41
 enum-told-4 : tie.Need-enum-told-4
 enum-told-4 c = search needs
 
--- src/lib.rt:102:26
 put-code-reply-requires-4 : tie.Need-put-code-reply-requires-4
 put-code-reply-requires-4 c κs = search needs
 
--- src/lib.rt:103:43
 enum-told-5 : tie.Need-enum-told-5
 enum-told-5 c = search needs
 
--- src/lib.rt:103:28
 put-code-reply-requires-5 : tie.Need-put-code-reply-requires-5
 put-code-reply-requires-5 c κs = search needs
 
--- src/lib.rt:104:40
 enum-told-6 : tie.Need-enum-told-6
 enum-told-6 c = search needs
 
--- src/lib.rt:104:25
 put-code-reply-requires-6 : tie.Need-put-code-reply-requires-6
 put-code-reply-requires-6 c κs = search needs
 
--- src/lib.rt:93:1
 same-length : tie.Need-same-length
 same-length c = search needs
 
--- src/lib.rt:93:1
 returns : tie.Need-returns
 unfolding saidOf
 returns c = rw (c .before .before .before .before .before .before .a .given .1, ← c .before .before .before .answer-to .ensures) (c .before .before .put-answer-reply .ensures)
 
--- src/lib.rt:93:1
 same-length-2 : tie.Need-same-length-2
 same-length-2 c = search needs
 
--- src/lib.rt:93:1
 returns-2 : tie.Need-returns-2
 unfolding saidOf
 returns-2 c = rw (c .before .before .before .before .enum-told .given .1, ← c .before .before .before .before .enum-told .given .1, ← c .before .before .before .before .before .before .before .pre) (c .before .before .put-code-reply .ensures)
 
--- src/lib.rt:93:1
 same-length-3 : tie.Need-same-length-3
 same-length-3 c = search needs
 
--- src/lib.rt:93:1
 returns-3 : tie.Need-returns-3
 unfolding saidOf
 returns-3 c = rw (c .before .before .before .before .enum-told2 .given .1, ← c .before .before .before .before .enum-told2 .given .1, ← c .before .before .before .before .before .before .before .pre) (c .before .before .put-code-reply2 .ensures)
 
--- src/lib.rt:93:1
 same-length-4 : tie.Need-same-length-4
 same-length-4 c = search needs
 
--- src/lib.rt:93:1
 returns-4 : tie.Need-returns-4
 unfolding saidOf
 returns-4 c = rw (c .before .before .before .before .enum-told3 .given .1, ← c .before .before .before .before .enum-told3 .given .1, ← c .before .before .before .before .before .before .before .pre) (c .before .before .put-code-reply3 .ensures)
 
--- src/lib.rt:93:1
 same-length-5 : tie.Need-same-length-5
 same-length-5 c = search needs
 
--- src/lib.rt:93:1
 returns-5 : tie.Need-returns-5
 unfolding saidOf
 returns-5 c = rw (c .before .before .before .before .enum-told4 .given .1, ← c .before .before .before .before .enum-told4 .given .1, ← c .before .before .before .before .before .before .before .pre) (c .before .before .put-code-reply4 .ensures)
 
--- src/lib.rt:93:1
 same-length-6 : tie.Need-same-length-6
 same-length-6 c = search needs
 
--- src/lib.rt:93:1
 returns-6 : tie.Need-returns-6
 unfolding saidOf
 returns-6 c = rw (c .before .before .before .before .enum-told5 .given .1, ← c .before .before .before .before .enum-told5 .given .1, ← c .before .before .before .before .before .before .before .pre) (c .before .before .put-code-reply5 .ensures)
 
--- src/lib.rt:93:1
 same-length-7 : tie.Need-same-length-7
 same-length-7 c = search needs
 
--- src/lib.rt:93:1
 returns-7 : tie.Need-returns-7
 unfolding saidOf
 returns-7 c = rw (c .before .before .before .before .enum-told6 .given .1, ← c .before .before .before .before .enum-told6 .given .1, ← c .before .before .before .before .before .before .before .pre) (c .before .before .put-code-reply6 .ensures)

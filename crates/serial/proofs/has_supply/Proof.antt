@@ -6,11 +6,9 @@ use Rattle.serial.proofs.has_supply.Reads as reads
 use Rattle.serial.proofs.has_supply.Lts as lts
 use Rattle.serial.proofs.model_at.Reads as model-at-reads
 
--- src/lib.rt:99:5
 model-at-requires : tie.Need-model-at-requires
 model-at-requires c κs = search needs
 
--- src/lib.rt:96:1
 returns : tie.Need-returns
 returns c = rw (c .model-at .ensures)
 

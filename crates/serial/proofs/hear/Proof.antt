@@ -11,31 +11,24 @@ use Rattle.serial.proofs.hear.Reads as reads
 use Rattle.serial.proofs.hear.Lts as lts
 use Rattle.command.proofs.read_line.Reads as read-line-reads
 
--- src/lib.rt:69:28
 array-share-prefix-kept : tie.Need-array-share-prefix-kept
 array-share-prefix-kept c = let l : length (c .before .before .args .l .kept) ≡ 64 = search needs in omega arith
 
--- src/lib.rt:69:28
 slice-aggregate-read-line : tie.Need-slice-aggregate-read-line
 slice-aggregate-read-line c = let l : length (c .before .before .before .args .l .kept) ≡ 64 = search needs in sym (length-take-le (c .before .before .before .args .l .count) (c .before .before .before .args .l .kept) (omega arith))
 
--- src/lib.rt:69:9
 read-line-requires : tie.Need-read-line-requires
 read-line-requires c κs = search needs
 
--- src/lib.rt:71:28
 slice-aggregate-read-line-2 : tie.Need-slice-aggregate-read-line-2
 slice-aggregate-read-line-2 c = search needs
 
--- src/lib.rt:71:9
 read-line-requires-2 : tie.Need-read-line-requires-2
 read-line-requires-2 c κs = search needs
 
--- src/lib.rt:62:1
 returns : tie.Need-returns
 returns c = search needs
 
--- src/lib.rt:62:1
 returns-2 : tie.Need-returns-2
 returns-2 c = let l : length (c .before .before .before .before .args .l .kept) ≡ 64 = search needs in rw (take-all (c .before .before .before .before .args .l .count) (c .before .before .before .before .args .l .kept) (omega arith)) (c .read-line2 .ensures)
 

@@ -9,15 +9,12 @@ use Rattle.serial.proofs.model_at.Tie as tie
 use Rattle.serial.proofs.model_at.Reads as reads
 use Rattle.serial.proofs.model_at.Lts as lts
 
--- src/lib.rt:92:17
 array-read-result : tie.Need-array-read-result
 array-read-result c = search needs
 
--- src/lib.rt:87:1
 returns : tie.Need-returns
 returns c = let l : length (c .before .before .args .u .models) ≡ 31 = search needs in model-inside (c .before .before .args .u) (c .before .before .args .a) 0 (omega arith)
 
--- src/lib.rt:87:1
 returns-2 : tie.Need-returns-2
 returns-2 c = let l : length (c .before .before .args .u .models) ≡ 31 = search needs in sym (model-past (c .before .before .args .u) (c .before .before .args .a) (omega arith))
 

@@ -18,47 +18,36 @@ Inv-loop u o next₀ i₀ next i = (i ≤ 31) × (next ≡ eachTo (orderedAt u o
 abbrev μ-loop : tie.MeasureT-loop
 μ-loop u o next₀ i₀ next i = 31 - i
 
--- src/lib.rt:120:5
 loop-holds : tie.Need-loop-holds Inv-loop μ-loop
 loop-holds c = search needs
 
--- src/lib.rt:121:17
 cast-k : tie.Need-cast-k Inv-loop μ-loop
 cast-k c = search needs
 
--- src/lib.rt:122:39
 mul-ordered-at : tie.Need-mul-ordered-at Inv-loop μ-loop
 mul-ordered-at c = search needs
 
--- src/lib.rt:122:39
 array-copy-out-ordered-at : tie.Need-array-copy-out-ordered-at Inv-loop μ-loop
 array-copy-out-ordered-at c = search needs
 
--- src/lib.rt:122:19
 ordered-at-requires : tie.Need-ordered-at-requires Inv-loop μ-loop
 ordered-at-requires c κs = search needs
 
--- src/lib.rt:122:9
 mul-next : tie.Need-mul-next Inv-loop μ-loop
 mul-next c = search needs
 
--- src/lib.rt:122:9
 array-set-from-next : tie.Need-array-set-from-next Inv-loop μ-loop
 array-set-from-next c = search needs
 
--- src/lib.rt:123:9
 add-i : tie.Need-add-i Inv-loop μ-loop
 add-i c = search needs
 
--- src/lib.rt:120:5
 loop-less : tie.Need-loop-less Inv-loop μ-loop
 loop-less c = search needs
 
--- src/lib.rt:120:5
 loop-again : tie.Need-loop-again Inv-loop μ-loop
 loop-again c = (search needs, eachTo-again _ (c .before .before .before .loop .i) _ _ _ _ (c .before .before .before .loop .inv .1) (c .ordered-at .ensures))
 
--- src/lib.rt:115:1
 returns : tie.Need-returns Inv-loop μ-loop
 returns c = let e : c .before .loop .i ≡ 31 = omega arith in rw e at (c .before .loop .inv .1)
 

@@ -10,23 +10,18 @@ use Rattle.acts.proofs.perform.Reads as perform-reads
 use Rattle.serial.proofs.has_supply.Reads as has-supply-reads
 use Rattle.serial.proofs.model_at.Reads as model-at-reads
 
--- src/lib.rt:105:8
 has-supply-requires : tie.Need-has-supply-requires
 has-supply-requires c κs = search needs
 
--- src/lib.rt:106:34
 model-at-requires : tie.Need-model-at-requires
 model-at-requires c κs = search needs
 
--- src/lib.rt:106:13
 perform-requires : tie.Need-perform-requires
 perform-requires c κs = search needs
 
--- src/lib.rt:102:1
 returns : tie.Need-returns
 returns c = rw (c .before .before .model-at .ensures) at (c .before .perform .ensures .1) ∙ sym (pick-true _ _ _ (sym (c .before .before .before .before .has-supply .ensures) ∙ c .before .before .before .if1 .taken))
 
--- src/lib.rt:102:1
 returns-2 : tie.Need-returns-2
 returns-2 c = sym (pick-false _ _ _ (sym (c .before .has-supply .ensures) ∙ c .if1 .left))
 

@@ -6,35 +6,27 @@ use Rattle.serial.proofs.take_char.Tie as tie
 use Rattle.serial.proofs.take_char.Reads as reads
 use Rattle.serial.proofs.take_char.Lts as lts
 
--- src/lib.rt:44:9
 returns : tie.Need-returns
 returns c = λ h. typed-lf (c .before .args .l) (c .before .args .b) (search needs) h (c .if1 .taken)
 
--- src/lib.rt:48:26
 sub-next : tie.Need-sub-next
 sub-next c = search needs
 
--- src/lib.rt:50:9
 returns-2 : tie.Need-returns-2
 returns-2 c = λ h. typed-back (c .before .before .before .args .l) (c .before .before .before .args .b) (search needs) h (c .before .before .if1 .left) (c .before .if2 .taken)
 
--- src/lib.rt:50:9
 returns-3 : tie.Need-returns-3
 returns-3 c = λ h. typed-none (c .before .before .before .args .l) (c .before .before .before .args .b) (search needs) h (c .before .before .if1 .left) (c .before .if2 .taken) (c .if3 .left)
 
--- src/lib.rt:53:9
 element-write-next : tie.Need-element-write-next
 element-write-next c = search needs
 
--- src/lib.rt:54:22
 add-next : tie.Need-add-next
 add-next c = search needs
 
--- src/lib.rt:55:9
 returns-4 : tie.Need-returns-4
 returns-4 c = λ h. typed-add (c .before .before .before .args .l) (c .before .before .before .args .b) (search needs) h (c .before .before .if1 .left) (c .before .if2 .left) (c .if4 .taken)
 
--- src/lib.rt:38:1
 returns-5 : tie.Need-returns-5
 returns-5 c = λ h. typed-full (c .before .before .before .args .l) (c .before .before .before .args .b) (search needs) h (c .before .before .if1 .left) (c .before .if2 .left) (c .if4 .left)
 

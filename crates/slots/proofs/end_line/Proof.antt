@@ -14,42 +14,33 @@ use Rattle.slots.proofs.put_back.Reads as put-back-reads
 use Rattle.slots.proofs.slot_at.Reads as slot-at-reads
 use Rattle.slots.proofs.tell_all.Reads as tell-all-reads
 
--- src/lib.rt:210:22
 slot-at-requires : tie.Need-slot-at-requires
 slot-at-requires c κs = search needs
 
--- src/lib.rt:210:9
 measured-requires : tie.Need-measured-requires
 measured-requires c κs = search needs
 
--- src/lib.rt:211:9
 end-one-requires : tie.Need-end-one-requires
 end-one-requires c κs = search needs
 
--- src/lib.rt:215:13
 tell-all-requires : tie.Need-tell-all-requires
 tell-all-requires c κs = search needs
 
--- src/lib.rt:218:9
 put-back-requires : tie.Need-put-back-requires
 put-back-requires c κs = search needs
 
--- src/lib.rt:203:1
 same-length : tie.Need-same-length
 same-length c = search needs
 
--- src/lib.rt:203:1
 returns : tie.Need-returns
 returns c =
     let z = c .before .before .before .before .before .before .before .before .before .before .before .before .args in
     let g = c .before .before .before .before .end-one .ensures .1 (c .before .if1 .taken) in
     (rw (g .1) (told-class (z .r) (c .tell-all .result) _ (now (z .buf)) (z .at) (g .0) (c .tell-all .ensures)), ended-fair (z .r) (c .before .before .before .before .before .before .before .slot-at .result) (c .before .before .before .before .before .before .measured .ensures .1) (λ f. c .before .before .before .before .before .before .before .slot-at .ensures))
 
--- src/lib.rt:203:1
 same-length-2 : tie.Need-same-length-2
 same-length-2 c = search needs
 
--- src/lib.rt:203:1
 returns-2 : tie.Need-returns-2
 returns-2 c =
     let z = c .before .before .before .before .before .before .before .before .before .before .before .before .args in

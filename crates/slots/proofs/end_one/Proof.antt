@@ -14,105 +14,82 @@ use Rattle.slots.proofs.say_code.Reads as say-code-reads
 use Rattle.slots.proofs.select_slot.Reads as select-slot-reads
 use Rattle.slots.proofs.tell_one.Reads as tell-one-reads
 
--- src/lib.rt:144:9
 hear-requires : tie.Need-hear-requires
 hear-requires c κs = search needs
 
--- src/lib.rt:148:22
 enum-known-asks : tie.Need-enum-known-asks
 enum-known-asks c = search needs
 
--- src/lib.rt:148:28
 select-slot-requires : tie.Need-select-slot-requires
 select-slot-requires c κs = search needs
 
--- src/lib.rt:149:25
 enum-known-asks-2 : tie.Need-enum-known-asks-2
 enum-known-asks-2 c = search needs
 
--- src/lib.rt:149:31
 say-code-requires : tie.Need-say-code-requires
 say-code-requires c κs = search needs
 
--- src/lib.rt:150:24
 enum-known-asks-3 : tie.Need-enum-known-asks-3
 enum-known-asks-3 c = search needs
 
--- src/lib.rt:158:17
 enum-told : tie.Need-enum-told
 enum-told c = search needs
 
--- src/lib.rt:159:23
 cleared-requires : tie.Need-cleared-requires
 cleared-requires c κs = search needs
 
--- src/lib.rt:159:13
 one-ended-requires : tie.Need-one-ended-requires
 one-ended-requires c κs = search needs
 
--- src/lib.rt:161:19
 enum-known-asks-4 : tie.Need-enum-known-asks-4
 enum-known-asks-4 c = search needs
 
--- src/lib.rt:161:25
 tell-one-requires : tie.Need-tell-one-requires
 tell-one-requires c κs = search needs
 
--- src/lib.rt:162:21
 enum-known-asks-5 : tie.Need-enum-known-asks-5
 enum-known-asks-5 c = search needs
 
--- src/lib.rt:162:27
 say-code-requires-2 : tie.Need-say-code-requires-2
 say-code-requires-2 c κs = search needs
 
--- src/lib.rt:141:1
 same-length : tie.Need-same-length
 same-length c = search needs
 
--- src/lib.rt:141:1
 returns : tie.Need-returns
 returns c =
     let z = c .before .before .before .before .before .before .before .before .before .args in
     by-class (z .u) (z .l) (z .s) (now (z .buf)) (z .at) (c .before .before .before .before .before .before .before .hear .result) (c .before .before .before .before .before .before .before .hear .ensures) _ _ (c .before .before .select-slot .ensures .0) (rw (c .before .before .before .before .before .asks .given .1) (c .before .before .select-slot .ensures .1))
 
--- src/lib.rt:141:1
 same-length-2 : tie.Need-same-length-2
 same-length-2 c = search needs
 
--- src/lib.rt:141:1
 returns-2 : tie.Need-returns-2
 returns-2 c =
     let z = c .before .before .before .before .before .before .before .before .before .args in
     by-class (z .u) (z .l) (z .s) (now (z .buf)) (z .at) (c .before .before .before .before .before .before .before .hear .result) (c .before .before .before .before .before .before .before .hear .ensures) _ _ (c .before .before .say-code .ensures .0) (rw (c .before .before .before .before .before .asks2 .given .1) (c .before .before .say-code .ensures .1))
 
--- src/lib.rt:141:1
 returns-3 : tie.Need-returns-3
 returns-3 c =
     let z = c .before .before .before .before .before .args in
     all-ends (z .u) (z .l) (z .s) (now (z .buf)) (z .at) (c .before .before .before .hear .result) (c .before .before .before .hear .ensures) _ (c .before .asks3 .given .1)
 
--- src/lib.rt:141:1
 returns-4 : tie.Need-returns-4
 returns-4 c =
     let z = c .before .before .before .before .before .before .args in
     rw (c .one-ended .ensures) (by-class (z .u) (z .l) (z .s) (now (z .buf)) (z .at) (c .before .before .before .before .hear .result) (c .before .before .before .before .hear .ensures) _ _ refl (rw (c .before .before .enum-told .given .1) (ends-unheard (z .u) (z .l) (z .s) (now (z .buf)) (z .at) _ (record { small = c .before .cleared .ensures .1; is = c .before .cleared .ensures .0 }))))
 
--- src/lib.rt:141:1
 same-length-3 : tie.Need-same-length-3
 same-length-3 c = search needs
 
--- src/lib.rt:141:1
 returns-5 : tie.Need-returns-5
 returns-5 c =
     let z = c .before .before .before .before .before .before .before .before .before .args in
     one-ends (z .u) (z .l) (z .s) (now (z .buf)) (z .at) (c .before .before .before .before .before .before .before .hear .result) (c .before .before .before .before .before .before .before .hear .ensures) _ _ _ (c .before .before .before .before .before .asks4 .given .1) (c .before .before .tell-one .ensures .0) (c .before .before .tell-one .ensures .1)
 
--- src/lib.rt:141:1
 same-length-4 : tie.Need-same-length-4
 same-length-4 c = search needs
 
--- src/lib.rt:141:1
 returns-6 : tie.Need-returns-6
 returns-6 c =
     let z = c .before .before .before .before .before .before .before .before .before .args in

@@ -7,7 +7,6 @@ use Rattle.slots.proofs.measured.Tie as tie
 use Rattle.slots.proofs.measured.Reads as reads
 use Rattle.slots.proofs.measured.Lts as lts
 
--- src/lib.rt:33:1
 returns : tie.Need-returns
 returns c = (refl, sized _ (search needs) (search needs) (search needs) (search needs) (search needs) (search needs))
 

@@ -7,11 +7,9 @@ use Rattle.slots.proofs.put_back.Reads as reads
 use Rattle.slots.proofs.put_back.Lts as lts
 use Rattle.slots.proofs.set_slot.Reads as set-slot-reads
 
--- src/lib.rt:193:9
 set-slot-requires : tie.Need-set-slot-requires
 set-slot-requires c κs = search needs
 
--- src/lib.rt:184:1
 returns : tie.Need-returns
 returns c =
     rw (c .set-slot .ensures) refl

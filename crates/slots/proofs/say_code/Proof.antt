@@ -12,37 +12,29 @@ use Rattle.serial.proofs.cleared.Reads as cleared-reads
 use Rattle.serial.proofs.has_supply.Reads as has-supply-reads
 use Rattle.slots.proofs.one_ended.Reads as one-ended-reads
 
--- src/lib.rt:114:9
 cleared-requires : tie.Need-cleared-requires
 cleared-requires c κs = search needs
 
--- src/lib.rt:115:8
 has-supply-requires : tie.Need-has-supply-requires
 has-supply-requires c κs = search needs
 
--- src/lib.rt:116:13
 put-code-reply-requires : tie.Need-put-code-reply-requires
 put-code-reply-requires c κs = search needs
 
--- src/lib.rt:117:9
 one-ended-requires : tie.Need-one-ended-requires
 one-ended-requires c κs = search needs
 
--- src/lib.rt:119:9
 one-ended-requires-2 : tie.Need-one-ended-requires-2
 one-ended-requires-2 c κs = search needs
 
--- src/lib.rt:110:1
 same-length : tie.Need-same-length
 same-length c = search needs
 
--- src/lib.rt:110:1
 returns : tie.Need-returns
 returns c =
     let z = c .before .before .before .before .before .before .before .before .before .args in
     rw (c .one-ended .ensures) (refl, ends-code (z .u) (z .l) (z .s) (now (z .buf)) (z .at) _ _ _ _ (sym (c .before .before .before .before .before .before .has-supply .ensures) ∙ c .before .before .before .before .before .if1 .taken) (record { small = c .before .before .before .before .before .before .before .cleared .ensures .1; is = c .before .before .before .before .before .before .before .cleared .ensures .0 }) (c .before .before .before .put-code-reply .ensures))
 
--- src/lib.rt:110:1
 returns-2 : tie.Need-returns-2
 returns-2 c =
     let z = c .before .before .before .before .before .args in

@@ -9,19 +9,15 @@ use Rattle.slots.proofs.set_slot.Tie as tie
 use Rattle.slots.proofs.set_slot.Reads as reads
 use Rattle.slots.proofs.set_slot.Lts as lts
 
--- src/lib.rt:52:9
 mul-next : tie.Need-mul-next
 mul-next c = search needs
 
--- src/lib.rt:52:9
 array-set-from-next : tie.Need-array-set-from-next
 array-set-from-next c = search needs
 
--- src/lib.rt:46:1
 returns : tie.Need-returns
 returns c = search needs
 
--- src/lib.rt:46:1
 returns-2 : tie.Need-returns-2
 returns-2 c = sym (set-out _ _ _ (let l : length (c .before .args .slots) ≡ 31 = search needs in omega arith))
 

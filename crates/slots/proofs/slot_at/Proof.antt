@@ -1,5 +1,4 @@
 -- `slot_at` meets its contract.
--- `slot_at` meets its contract.
 use mathlib.Core.Path.{_≡_, sym, ap, _∙_}
 use lib.ListN.{length}
 use native.Mathlib.Omega.{arith}
@@ -13,23 +12,18 @@ use Rattle.slots.proofs.slot_at.Reads as reads
 use Rattle.slots.proofs.slot_at.Lts as lts
 use Rattle.supply.proofs.fresh_supply.Reads as fresh-supply-reads
 
--- src/lib.rt:39:9
 mul-result : tie.Need-mul-result
 mul-result c = search needs
 
--- src/lib.rt:39:9
 array-copy-out-result : tie.Need-array-copy-out-result
 array-copy-out-result c = search needs
 
--- src/lib.rt:41:9
 fresh-supply-requires : tie.Need-fresh-supply-requires
 fresh-supply-requires c κs = search needs
 
--- src/lib.rt:34:1
 returns : tie.Need-returns
 returns c = getD-any (c .before .before .args .t1) (c .before .before .args .a) _ (fresh 255) (let l : length (c .before .before .args .t1) ≡ 31 = search needs in omega arith)
 
--- src/lib.rt:34:1
 returns-2 : tie.Need-returns-2
 returns-2 c = c .fresh-supply .ensures ∙ sym (List·getD-eq-default (c .before .before .args .t1) (fresh 255) (let l : length (c .before .before .args .t1) ≡ 31 = search needs in omega arith))
 

@@ -10,27 +10,21 @@ use Rattle.slots.proofs.end_line.Reads as end-line-reads
 use Rattle.slots.proofs.with_line.Reads as with-line-reads
 use Rattle.serial.proofs.take_char.Reads as take-char-reads
 
--- src/lib.rt:181:9
 end-line-requires : tie.Need-end-line-requires
 end-line-requires c κs = search needs
 
--- src/lib.rt:181:9
 same-length : tie.Need-same-length
 same-length c = search needs
 
--- src/lib.rt:181:9
 returns : tie.Need-returns
 returns c = (λ h. ended-on (c .before .before .before .before .before .before .args .r) _ _ _ _ _ _ (c .before .before .before .before .if1 .taken) (c .before .before .end-line .ensures .0), cr-fair _ _ (c .before .before .before .before .if1 .taken) (c .before .before .end-line .ensures .1))
 
--- src/lib.rt:184:29
 take-char-requires : tie.Need-take-char-requires
 take-char-requires c κs = search needs
 
--- src/lib.rt:184:9
 with-line-requires : tie.Need-with-line-requires
 with-line-requires c κs = search needs
 
--- src/lib.rt:176:1
 returns-2 : tie.Need-returns-2
 returns-2 c = (λ h. rw (c .with-line .ensures) (typed-on (c .before .before .before .before .before .args .r) _ _ _ _ (c .before .before .before .if1 .left) (c .before .take-char .ensures h)), char-fair _ _ (c .before .before .before .if1 .left))
 

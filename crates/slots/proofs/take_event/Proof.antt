@@ -10,23 +10,18 @@ use Rattle.slots.proofs.set_slot.Reads as set-slot-reads
 use Rattle.slots.proofs.slot_at.Reads as slot-at-reads
 use Rattle.serial.proofs.model_at.Reads as model-at-reads
 
--- src/lib.rt:225:9
 model-at-requires : tie.Need-model-at-requires
 model-at-requires c κs = search needs
 
--- src/lib.rt:226:37
 slot-at-requires : tie.Need-slot-at-requires
 slot-at-requires c κs = search needs
 
--- src/lib.rt:226:9
 perform-requires : tie.Need-perform-requires
 perform-requires c κs = search needs
 
--- src/lib.rt:227:9
 set-slot-requires : tie.Need-set-slot-requires
 set-slot-requires c κs = search needs
 
--- src/lib.rt:219:1
 returns : tie.Need-returns
 returns c = rw (c .set-slot .ensures, c .before .perform .ensures .1, c .before .before .slot-at .ensures, c .before .before .before .model-at .ensures) refl
 

@@ -19,27 +19,21 @@ Inv-loop p buf₀ rack₀ next₀ i₀ buf rack next i =
 abbrev μ-loop : tie.MeasureT-loop
 μ-loop p buf₀ rack₀ next₀ i₀ buf rack next i = length p - i
 
--- src/lib.rt:196:5
 loop-holds : tie.Need-loop-holds Inv-loop μ-loop
 loop-holds c = (search needs, refl, λ h. moves-none _ _ h, λ h. fair-none _)
 
--- src/lib.rt:197:38
 shared-slice-read-take-byte : tie.Need-shared-slice-read-take-byte Inv-loop μ-loop
 shared-slice-read-take-byte c = search needs
 
--- src/lib.rt:197:13
 take-byte-requires : tie.Need-take-byte-requires Inv-loop μ-loop
 take-byte-requires c κs = search needs
 
--- src/lib.rt:200:9
 add-i : tie.Need-add-i Inv-loop μ-loop
 add-i c = search needs
 
--- src/lib.rt:196:5
 loop-less : tie.Need-loop-less Inv-loop μ-loop
 loop-less c = search needs
 
--- src/lib.rt:196:5
 loop-again : tie.Need-loop-again Inv-loop μ-loop
 loop-again c =
     let t = c .before .before .before in
@@ -51,11 +45,9 @@ loop-again c =
       λ h. fair-more _ (l .loop .rack) _ (l .loop .i) less _ (l .loop .next) (l .loop .buf) (l .loop .inv .2 h) (l .loop .inv .3 h) (t .take-byte .ensures .1),
     )
 
--- src/lib.rt:189:1
 same-length : tie.Need-same-length Inv-loop μ-loop
 same-length c = search needs
 
--- src/lib.rt:189:1
 returns : tie.Need-returns Inv-loop μ-loop
 returns c =
     let l = c .before in

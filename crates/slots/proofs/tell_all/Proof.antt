@@ -1,6 +1,5 @@
 -- `tell_all` meets its contract.
 use lib.ListN.{length-map}
--- `tell_all` meets its contract.
 use lib.ListN.{length}
 use native.Mathlib.Omega.{arith}
 use mathlib.Core.Path.{_≡_, sym, ap, _∙_}
@@ -14,15 +13,12 @@ use Rattle.slots.proofs.tell_all.Lts as lts
 use Rattle.serial.proofs.cleared.Reads as cleared-reads
 use Rattle.serial.proofs.order_all.Reads as order-all-reads
 
--- src/lib.rt:105:9
 order-all-requires : tie.Need-order-all-requires
 order-all-requires c κs = search needs
 
--- src/lib.rt:106:9
 cleared-requires : tie.Need-cleared-requires
 cleared-requires c κs = search needs
 
--- src/lib.rt:98:1
 returns : tie.Need-returns
 returns c = λ h b at. told (c .before .before .before .before .before .args .r) b at (c .before .before .before .before .before .args .o) (c .before .order-all .result) (c .cleared .result) (let l : length (c .before .before .before .before .before .args .r .slots) ≡ 31 = simp length-map at (c .before .before .before .before .before .good .0 .1 .1 .0 .1 .0 .1) in omega arith) (c .before .order-all .ensures) (record { small = c .cleared .ensures .1; is = c .cleared .ensures .0 }) h
 

@@ -13,41 +13,32 @@ use Rattle.serial.proofs.has_supply.Reads as has-supply-reads
 use Rattle.serial.proofs.model_at.Reads as model-at-reads
 use Rattle.slots.proofs.one_ended.Reads as one-ended-reads
 
--- src/lib.rt:128:9
 cleared-requires : tie.Need-cleared-requires
 cleared-requires c κs = search needs
 
--- src/lib.rt:129:8
 has-supply-requires : tie.Need-has-supply-requires
 has-supply-requires c κs = search needs
 
--- src/lib.rt:130:13
 model-at-requires : tie.Need-model-at-requires
 model-at-requires c κs = search needs
 
--- src/lib.rt:131:13
 obey-requires : tie.Need-obey-requires
 obey-requires c κs = search needs
 
--- src/lib.rt:134:9
 one-ended-requires : tie.Need-one-ended-requires
 one-ended-requires c κs = search needs
 
--- src/lib.rt:136:9
 one-ended-requires-2 : tie.Need-one-ended-requires-2
 one-ended-requires-2 c κs = search needs
 
--- src/lib.rt:124:1
 same-length : tie.Need-same-length
 same-length c = search needs
 
--- src/lib.rt:124:1
 returns : tie.Need-returns
 returns c =
     let z = c .before .before .before .before .before .before .before .before .before .before .before .args in
     rw (c .one-ended .ensures) (refl, ends-asked (z .u) (z .l) (z .s) (now (z .buf)) (z .at) (z .a) (z .summed) (c .before .before .before .before .before .before .model-at .result) _ _ _ _ (sym (c .before .before .before .before .before .before .before .before .has-supply .ensures) ∙ c .before .before .before .before .before .before .before .if1 .taken) (c .before .before .before .before .before .before .model-at .ensures) (c .before .before .before .before .obey .ensures .0) (record { small = c .before .before .before .before .before .before .before .before .before .cleared .ensures .1; is = c .before .before .before .before .before .before .before .before .before .cleared .ensures .0 }) (c .before .before .before .before .obey .ensures .1))
 
--- src/lib.rt:124:1
 returns-2 : tie.Need-returns-2
 returns-2 c =
     let z = c .before .before .before .before .before .args in

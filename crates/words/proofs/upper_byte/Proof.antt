@@ -6,19 +6,15 @@ use Rattle.words.proofs.upper_byte.Tie as tie
 use Rattle.words.proofs.upper_byte.Reads as reads
 use Rattle.words.proofs.upper_byte.Lts as lts
 
--- src/lib.rt:12:9
 returns : tie.Need-returns
 returns c = simp (lt-leb 97 _ (c .if1 .taken))
 
--- src/lib.rt:15:9
 returns-2 : tie.Need-returns-2
 returns-2 c = simp (le-leb 97 _ (c .before .if1 .left), lt-leb _ 122 (c .if2 .taken))
 
--- src/lib.rt:17:5
 sub-result : tie.Need-sub-result
 sub-result c = search needs
 
--- src/lib.rt:8:1
 returns-3 : tie.Need-returns-3
 returns-3 c = simp (le-leb 97 _ (c .before .if1 .left), le-leb _ 122 (c .if2 .left))
 

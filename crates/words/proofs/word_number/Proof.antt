@@ -8,16 +8,13 @@ use Rattle.words.proofs.word_number.Reads as reads
 use Rattle.words.proofs.word_number.Lts as lts
 use Rattle.words.proofs.pack_word.Reads as pack-word-reads
 
--- src/lib.rt:37:27
 pack-word-requires : tie.Need-pack-word-requires
 pack-word-requires c κs = search needs
 
--- src/lib.rt:33:1
 returns : tie.Need-returns
 unfolding wordNumber
 returns c = rw (lt-ltb 5 _ (c .if1 .taken))
 
--- src/lib.rt:33:1
 returns-2 : tie.Need-returns-2
 unfolding wordNumber
 returns-2 c = rw (le-ltb 5 _ (c .before .if1 .left)) (c .pack-word .ensures)
