@@ -33,7 +33,7 @@ use Rattle.wire.specs.Rack.{callOf, freshRack, run, plain}
 use Rattle.plain.specs.Plain.{plainSupply, grammar, trips, stepOf, replyTo, classOf, releasesOf}
 use Rattle.slots.specs.declared.Rack.{Rack}
 use Rattle.rack.specs.Demand3.{Run, setupOf, supplyAt}
-use Rattle.rack.specs.Fit.{allAllowed, goodList}
+use Rattle.fitting.specs.Fitting.{allAllowed, goodList}
 use Rattle.rack.proofs.Isolation.{isolated-code}
 use Rattle.rack.proofs.Existence.{some-run}
 use Rattle.example.specs.Worked.{fittingList, tripping, tripped, released, calls, listAlone, alone, answers, expected, typed, shareTripping, shareTripped, shareReleased, shareNeighbour, endState, WorkedOut}

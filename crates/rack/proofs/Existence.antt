@@ -18,7 +18,7 @@ use Rattle.slots.specs.declared.Rack.{Rack}
 use Rattle.slots.specs.View.{viewOf}
 use Rattle.rack.specs.declared.Answer.{Answer}
 use Rattle.rack.specs.Calls.{refusal, Answered, callAs}
-use Rattle.rack.specs.Fit.{goodList}
+use Rattle.fitting.specs.Fitting.{goodList}
 use Rattle.rack.specs.Demand3.{Through, Leads, Run, setupOf}
 
 -- a record with this view; its line holds the kept characters alone, where the code's array has 64 bytes

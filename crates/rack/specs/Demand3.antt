@@ -19,7 +19,8 @@ use Rattle.slots.specs.declared.Rack.{Rack}
 use Rattle.rack.specs.declared.Answer.{Answer}
 use Rattle.rack.specs.declared.Fitted.{Fitted}
 use Rattle.rack.specs.Calls.{CallDoes}
-use Rattle.rack.specs.Fit.{goodList, FitDoes}
+use Rattle.fitting.specs.Fitting.{goodList}
+use Rattle.rack.specs.Fit.{FitDoes}
 
 -- one call made with a buffer of the length named; Rest is what is said of the rack that it answered, on a refusal the same rack
 pub record Through (r : Rack) (c : Call) (Rest : Rack → Type 0) : Type 0 where

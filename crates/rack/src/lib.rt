@@ -2,13 +2,11 @@
 ghost use mathlib.Core.Path.{_≡_};
 ghost use Prim.Native.Nat.{ℕ, _+_};
 ghost use mathlib.Core.List.{List};
-ghost use lib.ListN.{length};
 ghost use Rattle.wire.specs.Wire.{fitted};
 ghost use Rattle.field.specs.Fields.{tagOf, payloadOf, lengthOf, headerCode, readField};
-ghost use Rattle.rack.specs.Fit.{allAllowed, Made, FitDoes};
+ghost use Rattle.rack.specs.Fit.{FitDoes};
 ghost use Rattle.rack.specs.Calls.{refusal, ReadDoes, CallDoes};
 use slots::Rack;
-use wire::Setup;
 
 // What a call answers: code 0, the rack after the field, the bytes used and the length of the reply; or the number of a refusal and the same rack.
 pub struct Answer {
@@ -47,7 +45,7 @@ fn call_event(r: Rack, tag: u8, p: &[u8], used: usize) -> Answer
     if !field::values_fit(tag, p) {
         return refuse(r, 7);
     }
-    let rack = slots::take_event(r, a, field::act_of(tag, p));
+    let rack = intake::take_event(r, a, field::act_of(tag, p));
     Answer {
         code: 0,
         rack,
@@ -72,7 +70,7 @@ pub fn call(r: Rack, bytes: &[u8], reply: &mut [u8]) -> Answer
     let p = field::payload(bytes, header.length);
     let used = 3 + header.length;
     if tag == 1 {
-        let turned = slots::take_serial(r, p, reply);
+        let turned = intake::take_serial(r, p, reply);
         let rack = turned.rack;
         let length = turned.next;
         return Answer {
@@ -85,63 +83,19 @@ pub fn call(r: Rack, bytes: &[u8], reply: &mut [u8]) -> Answer
     call_event(r, tag, p, used)
 }
 
-// Each byte is a model number, or 255 for an empty slot.
-fn all_allowed(list: &[u8]) -> bool
-    ensures { λ r. ⌜ r ≡ allAllowed (now (list .entry)) ⌝ }
-{
-    let mut good = true;
-    let mut i = 0;
-    while i < list.len() {
-        let m = list[i];
-        good = good & ((m < 12) | (m == 255));
-        i += 1;
-    }
-    good
-}
-
-// The models of a list of 31 bytes.
-fn models_of(list: &[u8]) -> [u8; 31]
-    ensures { λ r. ⌜ (length (now (list .entry)) ≡ 31 → r ≡ now (list .entry)) ⌝ }
-{
-    let mut models = [255; 31];
-    let mut i = 0;
-    while i < 31 {
-        models[i] = field::byte_at(list, i);
-        i += 1;
-    }
-    models
-}
-
-// The fresh rack of these models.
-fn fresh_rack(models: [u8; 31]) -> Rack
-    ensures { λ r. ⌜ Made (record { models = models }) r ⌝ }
-{
-    let mut slots = [supply::fresh_supply(255); 31];
-    let mut i = 0;
-    while i < 31 {
-        slots[i] = supply::fresh_supply(models[i]);
-        i += 1;
-    }
-    Rack {
-        slots,
-        line: serial::fresh_line(),
-        setup: Setup { models },
-    }
-}
-
 // A fitting list: 31 bytes, for each slot its model, or 255 where it is empty.
 pub fn fit(list: &[u8]) -> Fitted
     ensures { λ f. ⌜ FitDoes (now (list .entry)) f ⌝ }
 {
-    if (list.len() == 31) & all_allowed(list) {
+    if (list.len() == 31) & fitting::all_allowed(list) {
         Fitted {
             code: 0,
-            rack: fresh_rack(models_of(list)),
+            rack: fitting::fresh_rack(fitting::models_of(list)),
         }
     } else {
         Fitted {
             code: 8,
-            rack: fresh_rack([255; 31]),
+            rack: fitting::fresh_rack([255; 31]),
         }
     }
 }

@@ -13,7 +13,7 @@ use Rattle.field.proofs.payload.Reads as payload-reads
 use Rattle.field.proofs.read_header.Reads as read-header-reads
 use Rattle.rack.proofs.call_event.Reads as call-event-reads
 use Rattle.rack.proofs.refuse.Reads as refuse-reads
-use Rattle.slots.proofs.take_serial.Reads as take-serial-reads
+use Rattle.intake.proofs.take_serial.Reads as take-serial-reads
 
 refuse-requires : tie.Need-refuse-requires
 refuse-requires c κs = search needs

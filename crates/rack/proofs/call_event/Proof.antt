@@ -11,7 +11,7 @@ use Rattle.field.proofs.act_of.Reads as act-of-reads
 use Rattle.field.proofs.byte_at.Reads as byte-at-reads
 use Rattle.field.proofs.values_fit.Reads as values-fit-reads
 use Rattle.rack.proofs.refuse.Reads as refuse-reads
-use Rattle.slots.proofs.take_event.Reads as take-event-reads
+use Rattle.intake.proofs.take_event.Reads as take-event-reads
 use Rattle.serial.proofs.has_supply.Reads as has-supply-reads
 
 byte-at-requires : tie.Need-byte-at-requires

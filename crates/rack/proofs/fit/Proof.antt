@@ -5,9 +5,9 @@ use Rattle.rack.proofs.fit.Statement.{statement}
 use Rattle.rack.proofs.fit.Tie as tie
 use Rattle.rack.proofs.fit.Reads as reads
 use Rattle.rack.proofs.fit.Lts as lts
-use Rattle.rack.proofs.all_allowed.Reads as all-allowed-reads
-use Rattle.rack.proofs.fresh_rack.Reads as fresh-rack-reads
-use Rattle.rack.proofs.models_of.Reads as models-of-reads
+use Rattle.fitting.proofs.all_allowed.Reads as all-allowed-reads
+use Rattle.fitting.proofs.fresh_rack.Reads as fresh-rack-reads
+use Rattle.fitting.proofs.models_of.Reads as models-of-reads
 
 all-allowed-requires : tie.Need-all-allowed-requires
 all-allowed-requires c κs = search needs

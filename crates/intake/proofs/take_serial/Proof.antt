@@ -4,13 +4,13 @@ use native.Mathlib.Omega.{arith}
 use Prim.Native.Nat.{_≤_, _-_}
 use mathlib.Core.Path.{_≡_, refl, _∙_}
 use lib.ListN.{length, take}
 use Rattle.slots.specs.View.{Moves, Fair, scanned}
 use Rattle.slots.proofs.Runs.{moves-none, fair-none, moves-more, fair-more, scanned-all, fair-all}
-use Rattle.slots.proofs.take_serial.Statement.{statement}
-use Rattle.slots.proofs.take_serial.Tie as tie
-use Rattle.slots.proofs.take_serial.Reads as reads
-use Rattle.slots.proofs.take_serial.Lts as lts
-use Rattle.slots.proofs.take_byte.Reads as take-byte-reads
+use Rattle.intake.proofs.take_serial.Statement.{statement}
+use Rattle.intake.proofs.take_serial.Tie as tie
+use Rattle.intake.proofs.take_serial.Reads as reads
+use Rattle.intake.proofs.take_serial.Lts as lts
+use Rattle.intake.proofs.take_byte.Reads as take-byte-reads
 
 abbrev Inv-loop : tie.InvT-loop
 Inv-loop p buf₀ rack₀ next₀ i₀ buf rack next i =

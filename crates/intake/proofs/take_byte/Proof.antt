@@ -1,13 +1,13 @@
 -- `take_byte` meets its contract.
 use Rattle.slots.proofs.Steps.{typed-on, ended-on}
 use Rattle.slots.proofs.Fairness.{char-fair, cr-fair}
 use borrow.Author.Needs.{needs}
-use Rattle.slots.proofs.take_byte.Statement.{statement}
-use Rattle.slots.proofs.take_byte.Tie as tie
-use Rattle.slots.proofs.take_byte.Reads as reads
-use Rattle.slots.proofs.take_byte.Lts as lts
-use Rattle.slots.proofs.end_line.Reads as end-line-reads
-use Rattle.slots.proofs.with_line.Reads as with-line-reads
+use Rattle.intake.proofs.take_byte.Statement.{statement}
+use Rattle.intake.proofs.take_byte.Tie as tie
+use Rattle.intake.proofs.take_byte.Reads as reads
+use Rattle.intake.proofs.take_byte.Lts as lts
+use Rattle.intake.proofs.end_line.Reads as end-line-reads
+use Rattle.intake.proofs.with_line.Reads as with-line-reads
 use Rattle.serial.proofs.take_char.Reads as take-char-reads
 
 end-line-requires : tie.Need-end-line-requires

@@ -6,11 +6,11 @@ use mathlib.Core.Path.{_≡_, refl}
 use lib.ListN.{length, getD, take}
 use Rattle.base.specs.Lists.{eachTo}
 use Rattle.base.proofs.Lists.{eachTo-again}
-use Rattle.rack.proofs.Fitting.{models-are}
-use Rattle.rack.proofs.models_of.Statement.{statement}
-use Rattle.rack.proofs.models_of.Tie as tie
-use Rattle.rack.proofs.models_of.Reads as reads
-use Rattle.rack.proofs.models_of.Lts as lts
+use Rattle.fitting.proofs.Laws.{models-are}
+use Rattle.fitting.proofs.models_of.Statement.{statement}
+use Rattle.fitting.proofs.models_of.Tie as tie
+use Rattle.fitting.proofs.models_of.Reads as reads
+use Rattle.fitting.proofs.models_of.Lts as lts
 use Rattle.field.proofs.byte_at.Reads as byte-at-reads
 
 abbrev Inv-loop : tie.InvT-loop

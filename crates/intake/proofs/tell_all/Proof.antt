@@ -4,12 +4,12 @@ use lib.ListN.{length}
 use native.Mathlib.Omega.{arith}
 use mathlib.Core.Path.{_≡_, sym, ap, _∙_}
 use Prim.Native.Nat.{_≤_}
 use Rattle.slots.proofs.Steps.{told}
 use borrow.Author.Needs.{needs}
-use Rattle.slots.proofs.tell_all.Statement.{statement}
-use Rattle.slots.proofs.tell_all.Tie as tie
-use Rattle.slots.proofs.tell_all.Reads as reads
-use Rattle.slots.proofs.tell_all.Lts as lts
+use Rattle.intake.proofs.tell_all.Statement.{statement}
+use Rattle.intake.proofs.tell_all.Tie as tie
+use Rattle.intake.proofs.tell_all.Reads as reads
+use Rattle.intake.proofs.tell_all.Lts as lts
 use Rattle.serial.proofs.cleared.Reads as cleared-reads
 use Rattle.serial.proofs.order_all.Reads as order-all-reads
 

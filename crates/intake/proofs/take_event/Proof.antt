@@ -1,13 +1,13 @@
 -- `take_event` meets its contract.
 use mathlib.Core.Path.{refl}
 use borrow.Author.Needs.{needs}
-use Rattle.slots.proofs.take_event.Statement.{statement}
-use Rattle.slots.proofs.take_event.Tie as tie
-use Rattle.slots.proofs.take_event.Reads as reads
-use Rattle.slots.proofs.take_event.Lts as lts
+use Rattle.intake.proofs.take_event.Statement.{statement}
+use Rattle.intake.proofs.take_event.Tie as tie
+use Rattle.intake.proofs.take_event.Reads as reads
+use Rattle.intake.proofs.take_event.Lts as lts
 use Rattle.acts.proofs.perform.Reads as perform-reads
-use Rattle.slots.proofs.set_slot.Reads as set-slot-reads
-use Rattle.slots.proofs.slot_at.Reads as slot-at-reads
+use Rattle.intake.proofs.set_slot.Reads as set-slot-reads
+use Rattle.intake.proofs.slot_at.Reads as slot-at-reads
 use Rattle.serial.proofs.model_at.Reads as model-at-reads
 
 model-at-requires : tie.Need-model-at-requires

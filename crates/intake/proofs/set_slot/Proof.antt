@@ -4,10 +4,10 @@ use lib.ListN.{length}
 use native.Mathlib.Omega.{arith}
 use lib.Seq.{set-out}
 use borrow.Author.Needs.{needs}
-use Rattle.slots.proofs.set_slot.Statement.{statement}
-use Rattle.slots.proofs.set_slot.Tie as tie
-use Rattle.slots.proofs.set_slot.Reads as reads
-use Rattle.slots.proofs.set_slot.Lts as lts
+use Rattle.intake.proofs.set_slot.Statement.{statement}
+use Rattle.intake.proofs.set_slot.Tie as tie
+use Rattle.intake.proofs.set_slot.Reads as reads
+use Rattle.intake.proofs.set_slot.Lts as lts
 
 mul-next : tie.Need-mul-next
 mul-next c = search needs

@@ -1,18 +1,18 @@
 -- `end_line` meets its contract.
 use mathlib.Core.Path.{_≡_, refl, sym, ap, _∙_}
 use denote.Ref.{now}
 use Rattle.slots.proofs.LineEnds.{told-class}
 use Rattle.slots.proofs.Fairness.{ended-fair}
 use borrow.Author.Needs.{needs}
-use Rattle.slots.proofs.end_line.Statement.{statement}
-use Rattle.slots.proofs.end_line.Tie as tie
-use Rattle.slots.proofs.end_line.Reads as reads
-use Rattle.slots.proofs.end_line.Lts as lts
+use Rattle.intake.proofs.end_line.Statement.{statement}
+use Rattle.intake.proofs.end_line.Tie as tie
+use Rattle.intake.proofs.end_line.Reads as reads
+use Rattle.intake.proofs.end_line.Lts as lts
 use Rattle.slots.proofs.end_one.Reads as end-one-reads
 use Rattle.slots.proofs.measured.Reads as measured-reads
-use Rattle.slots.proofs.put_back.Reads as put-back-reads
-use Rattle.slots.proofs.slot_at.Reads as slot-at-reads
-use Rattle.slots.proofs.tell_all.Reads as tell-all-reads
+use Rattle.intake.proofs.put_back.Reads as put-back-reads
+use Rattle.intake.proofs.slot_at.Reads as slot-at-reads
+use Rattle.intake.proofs.tell_all.Reads as tell-all-reads
 
 slot-at-requires : tie.Need-slot-at-requires
 slot-at-requires c κs = search needs

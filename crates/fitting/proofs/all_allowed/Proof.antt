@@ -4,12 +4,12 @@ use native.Mathlib.Omega.{arith}
 use Prim.Native.Nat.{_≤_, _-_}
 use mathlib.Core.Path.{_≡_, refl}
 use lib.ListN.{length, getD, take}
-use Rattle.rack.specs.Fit.{allAllowed}
-use Rattle.rack.proofs.Fitting.{allowed-none, allowed-more, allowed-all}
-use Rattle.rack.proofs.all_allowed.Statement.{statement}
-use Rattle.rack.proofs.all_allowed.Tie as tie
-use Rattle.rack.proofs.all_allowed.Reads as reads
-use Rattle.rack.proofs.all_allowed.Lts as lts
+use Rattle.fitting.specs.Fitting.{allAllowed}
+use Rattle.fitting.proofs.Laws.{allowed-none, allowed-more, allowed-all}
+use Rattle.fitting.proofs.all_allowed.Statement.{statement}
+use Rattle.fitting.proofs.all_allowed.Tie as tie
+use Rattle.fitting.proofs.all_allowed.Reads as reads
+use Rattle.fitting.proofs.all_allowed.Lts as lts
 
 abbrev Inv-loop : tie.InvT-loop
 Inv-loop list good₀ i₀ good i = (i ≤ length list) × (good ≡ allAllowed (take i list))

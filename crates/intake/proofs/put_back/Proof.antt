@@ -1,11 +1,11 @@
 -- `put_back` meets its contract.
 use mathlib.Core.Path.{refl}
 use borrow.Author.Needs.{needs}
-use Rattle.slots.proofs.put_back.Statement.{statement}
-use Rattle.slots.proofs.put_back.Tie as tie
-use Rattle.slots.proofs.put_back.Reads as reads
-use Rattle.slots.proofs.put_back.Lts as lts
-use Rattle.slots.proofs.set_slot.Reads as set-slot-reads
+use Rattle.intake.proofs.put_back.Statement.{statement}
+use Rattle.intake.proofs.put_back.Tie as tie
+use Rattle.intake.proofs.put_back.Reads as reads
+use Rattle.intake.proofs.put_back.Lts as lts
+use Rattle.intake.proofs.set_slot.Reads as set-slot-reads
 
 set-slot-requires : tie.Need-set-slot-requires
 set-slot-requires c κs = search needs

@@ -6,10 +6,10 @@ use lib.ListN.{List·getD-eq-default}
 use Rattle.supply.specs.State.{fresh}
 use borrow.Author.Needs.{needs}
 use Rattle.base.proofs.Lists.{getD-any}
-use Rattle.slots.proofs.slot_at.Statement.{statement}
-use Rattle.slots.proofs.slot_at.Tie as tie
-use Rattle.slots.proofs.slot_at.Reads as reads
-use Rattle.slots.proofs.slot_at.Lts as lts
+use Rattle.intake.proofs.slot_at.Statement.{statement}
+use Rattle.intake.proofs.slot_at.Tie as tie
+use Rattle.intake.proofs.slot_at.Reads as reads
+use Rattle.intake.proofs.slot_at.Lts as lts
 use Rattle.supply.proofs.fresh_supply.Reads as fresh-supply-reads
 
 mul-result : tie.Need-mul-result

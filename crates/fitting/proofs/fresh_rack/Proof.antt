@@ -6,11 +6,11 @@ use mathlib.Core.Path.{_≡_, refl}
 use lib.ListN.{length, getD, take}
 use Rattle.base.specs.Lists.{eachTo}
 use Rattle.supply.specs.State.{fresh}
-use Rattle.rack.proofs.Fitting.{fresh-again, made}
-use Rattle.rack.proofs.fresh_rack.Statement.{statement}
-use Rattle.rack.proofs.fresh_rack.Tie as tie
-use Rattle.rack.proofs.fresh_rack.Reads as reads
-use Rattle.rack.proofs.fresh_rack.Lts as lts
+use Rattle.fitting.proofs.Laws.{fresh-again, made}
+use Rattle.fitting.proofs.fresh_rack.Statement.{statement}
+use Rattle.fitting.proofs.fresh_rack.Tie as tie
+use Rattle.fitting.proofs.fresh_rack.Reads as reads
+use Rattle.fitting.proofs.fresh_rack.Lts as lts
 use Rattle.serial.proofs.fresh_line.Reads as fresh-line-reads
 use Rattle.supply.proofs.fresh_supply.Reads as fresh-supply-reads
 
