@@ -12,7 +12,7 @@ use Rattle.base.specs.Choice.{pick}
 use Rattle.base.proofs.Choice.{pick-keeps}
 use Rattle.figures.specs.declared.Number.{Number}
 use Rattle.figures.specs.Number.{firstAt}
-use Rattle.figures.specs.Hex.{readHex, checksum}
+use Rattle.hex.specs.Hex.{readHex, checksum}
 use Rattle.words.specs.Words.{wordNumber, findNumber, upperAll}
 use Rattle.words.proofs.Table.{Bytes, find-by-number}
 use Rattle.command.specs.declared.Parameter.{Parameter}

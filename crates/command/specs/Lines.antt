@@ -6,7 +6,7 @@ use lib.Dec.{leb, eqb}
 use lib.ListN.{length, getD, take, drop}
 use Rattle.base.specs.Choice.{pick}
 use Rattle.figures.specs.Number.{firstAt}
-use Rattle.figures.specs.Hex.{readHex, checksum}
+use Rattle.hex.specs.Hex.{readHex, checksum}
 use Rattle.words.specs.Words.{upperAll}
 use Rattle.supply.specs.declared.Act.the-variants.{Nothing}
 use Rattle.command.specs.declared.Asks.{Asks}

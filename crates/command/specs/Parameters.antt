@@ -8,7 +8,7 @@ use Rattle.base.specs.Choice.{pick}
 use Rattle.figures.specs.declared.Number.{Number}
 use Rattle.figures.specs.Digits.{allDigits, runValue}
 use Rattle.figures.specs.Number.{readNumber, numberIs, noNumber}
-use Rattle.figures.specs.Hex.{readHex}
+use Rattle.hex.specs.Hex.{readHex}
 use Rattle.supply.specs.State.{c05}
 use Rattle.command.specs.declared.Parameter.{Parameter}
 

@@ -139,7 +139,7 @@ fn switch_parameter(x: &[u8], most: u8) -> Parameter
 fn hex_parameter(x: &[u8]) -> Parameter
     ensures { λ r. ⌜ (r ≡ parameterOf hex (now (x .entry))) × (r .value < 256) ⌝ }
 {
-    need(figures::read_hex(x), x)
+    need(hex::read_hex(x), x)
 }
 
 fn address_parameter(x: &[u8]) -> Parameter
@@ -399,8 +399,8 @@ fn right_sum(s: &[u8]) -> bool
     ensures { λ r. ⌜ r ≡ rightSum (now (s .entry)) ⌝ }
 {
     let n = s.len();
-    let told = figures::read_hex(figures::part_after(s, n - 3));
-    let sum = figures::sum(figures::part_before(s, n - 3));
+    let told = hex::read_hex(figures::part_after(s, n - 3));
+    let sum = hex::sum(figures::part_before(s, n - 3));
     told.good & (told.value == base::wide(sum))
 }
 

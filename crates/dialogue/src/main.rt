@@ -91,7 +91,7 @@ fn character_at(s: &[u8], i: usize) -> Character
             next: i + 1,
         };
     }
-    let n = figures::read_hex(&s[i + 2..i + 4]);
+    let n = hex::read_hex(&s[i + 2..i + 4]);
     Character {
         byte: (n.value % 256) as u8,
         next: i + 4,

@@ -1,4 +1,3 @@
 pub mod Laws
 pub mod Print
-pub mod Hex
 pub mod RoundTrip

@@ -1,4 +1,3 @@
 pub mod Digits
 pub mod Number
-pub mod Hex
 pub mod Figure

@@ -1,11 +1,10 @@
-// Figures on the serial line: digits, numbers with decimals, hexadecimal and sums, read from bytes and placed into a lent buffer.
+// Figures on the serial line: digits and numbers with decimals, read from bytes and placed into a lent buffer.
 ghost use mathlib.Core.Path.{_≡_};
 ghost use Prim.Native.Nat.{ℕ, _+_, _-_, _*_, _/_, _^_, _<_, _≤_};
 ghost use lib.ListN.{length, take, drop};
 ghost use Rattle.base.specs.Put.{Put};
 ghost use Rattle.figures.specs.Digits.{digitOf, runValue, allDigits};
 ghost use Rattle.figures.specs.Number.{firstAt, wholeUnits, scaledValue, readNumber, noNumber};
-ghost use Rattle.figures.specs.Hex.{isHex, hexOf, readHex, hexDigit, hexPair, checksum};
 ghost use Rattle.figures.specs.Figure.{fixed, shortest, figure};
 
 // What was read: a number, or that the text is none (good is false, and value 0).
@@ -146,73 +145,6 @@ pub fn no_number() -> Number
         good: false,
         value: 0,
     }
-}
-
-// Whether b is a hexadecimal digit of either case.
-fn is_hex(b: u8) -> bool
-    ensures { λ r. ⌜ r ≡ isHex b ⌝ }
-{
-    (48 <= b) & (b <= 57) | ((65 <= b) & (b <= 70) | (97 <= b) & (b <= 102))
-}
-
-// What a hexadecimal digit of either case stands for.
-fn hex_of(b: u8) -> u64
-    ensures { λ r. ⌜ (r ≡ hexOf b) × (r < 256) ⌝ }
-{
-    if b <= 57 {
-        if b < 48 { 0 } else { (b - 48) as u64 }
-    } else if b <= 70 {
-        (b - 55) as u64
-    } else if b < 87 {
-        0
-    } else {
-        (b - 87) as u64
-    }
-}
-
-// The byte that two hexadecimal digits of either case are.
-pub fn read_hex(s: &[u8]) -> Number
-    ensures { λ r. ⌜ r ≡ readHex (now (s .entry)) ⌝ }
-{
-    if s.len() != 2 {
-        return no_number();
-    }
-    if !(is_hex(s[0]) & is_hex(s[1])) {
-        return no_number();
-    }
-    Number {
-        good: true,
-        value: hex_of(s[0]) * 16 + hex_of(s[1]),
-    }
-}
-
-// The sum of the bytes of s, modulo 256.
-pub fn sum(s: &[u8]) -> u8
-    ensures { λ r. ⌜ r ≡ checksum (now (s .entry)) ⌝ }
-{
-    let mut t: u64 = 0;
-    let mut i = 0;
-    while i < s.len() {
-        t = (t + base::wide(s[i])) % 256;
-        i += 1;
-    }
-    t as u8
-}
-
-// A capital hexadecimal digit.
-pub fn hex_digit(n: u8) -> u8
-    requires { ⌜ n < 16 ⌝ }
-    ensures { λ r. ⌜ r ≡ hexDigit n ⌝ }
-{
-    if n < 10 { 48 + n } else { 55 + n }
-}
-
-// Places b as two capital hexadecimal digits.
-pub fn put_hex(buf: &mut [u8], at: usize, b: u8) -> usize
-    ensures { λ r. ⌜ Put (now (buf .entry)) at (hexPair b) r (now (buf .exit)) ⌝ }
-{
-    let p = base::put_byte(buf, at, hex_digit(b / 16));
-    base::put_byte(buf, p, hex_digit(b % 16))
 }
 
 // Places the last n decimal digits of v.

@@ -4,7 +4,7 @@ use lib.Dec.{eqb}
 use Rattle.models.specs.Models.{table, limitsOf, voltReading, ampReading}
 use Rattle.figures.specs.Digits.{allDigits, runValue}
 use Rattle.figures.specs.Number.{firstAt, wellFormed, wholeUnits, scaledValue, readNumber}
-use Rattle.figures.specs.Hex.{isHex, hexOf, readHex, hexPair, total, checksum}
+use Rattle.hex.specs.Hex.{isHex, hexOf, readHex, hexPair, total, checksum}
 use Rattle.figures.specs.Figure.{fixed, shortest, decimals, figure}
 use Rattle.supply.specs.State.{fresh}
 use Rattle.supply.specs.Flt.{fltOf, onOf, linesClear, inLimit, settled}

@@ -13,7 +13,7 @@ use Rattle.base.proofs.Choice.{pick-keeps, and-both}
 use Rattle.models.specs.Models.{voltReading, ampReading}
 use Rattle.models.proofs.Rules.{volts-small, amps-small}
 use Rattle.figures.specs.Figure.{figure}
-use Rattle.figures.specs.Hex.{hexPair}
+use Rattle.hex.specs.Hex.{hexPair}
 use Rattle.figures.specs.Number.{firstAt}
 use Rattle.figures.proofs.Print.{length-figure}
 use Rattle.words.specs.Words.{Row, sameWord, findWord, upper, upperAll}

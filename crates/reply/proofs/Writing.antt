@@ -10,7 +10,7 @@ use borrow.Author.Tests.{eq-eqb, ne-eqb, leb-true, leb-false}
 use Rattle.base.specs.Put.{Put}
 use Rattle.base.specs.Text.{codes}
 use Rattle.base.proofs.Put.{put-then, put-full, put-full-is, put-there, put-length}
-use Rattle.figures.specs.Hex.{hexDigit, hexPair, checksum}
+use Rattle.hex.specs.Hex.{hexDigit, hexPair, checksum}
 use Rattle.reply.specs.Texts.{codeText, ending, replyOf}
 
 module _ {b : List ℕ} {at : ℕ} (c : ℕ) where

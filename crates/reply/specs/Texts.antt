@@ -6,7 +6,7 @@ use lib.Dec.{eqb}
 use Rattle.base.specs.Choice.{pick}
 use Rattle.base.specs.Text.{codes}
 use Rattle.figures.specs.Figure.{figure}
-use Rattle.figures.specs.Hex.{hexDigit, hexPair, checksum}
+use Rattle.hex.specs.Hex.{hexDigit, hexPair, checksum}
 use Rattle.supply.specs.declared.Word.{Word}
 use Rattle.supply.specs.declared.Word.the-variants.{On, Off, Loc, Rem, Llo, Cc, Cv}
 use Rattle.supply.specs.declared.Answer.{Answer}

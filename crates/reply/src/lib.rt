@@ -25,9 +25,9 @@ fn put_code(buf: &mut [u8], at: usize, code: u8) -> usize
     if code == 0 {
         base::put_text(buf, at, b"OK")
     } else {
-        let p = base::put_byte(buf, at, figures::hex_digit(code / 16));
+        let p = base::put_byte(buf, at, hex::hex_digit(code / 16));
         let q = base::put_byte(buf, p, b'0');
-        base::put_byte(buf, q, figures::hex_digit(code % 16))
+        base::put_byte(buf, q, hex::hex_digit(code % 16))
     }
 }
 
@@ -51,7 +51,7 @@ fn put_answer(buf: &mut [u8], at: usize, a: Answer) -> usize
     match a {
         Answer::Figure(k, v) => figures::put_figure(buf, at, k as usize, v),
         Answer::Says(w) => put_word(buf, at, w),
-        Answer::Hex(b) => figures::put_hex(buf, at, b),
+        Answer::Hex(b) => hex::put_hex(buf, at, b),
     }
 }
 
@@ -64,9 +64,9 @@ fn put_end(buf: &mut [u8], from: usize, at: usize, summed: bool) -> usize
         return at;
     }
     if summed {
-        let x = figures::sum(&buf[from..at]);
+        let x = hex::sum(&buf[from..at]);
         let p = base::put_byte(buf, at, b'$');
-        let q = figures::put_hex(buf, p, x);
+        let q = hex::put_hex(buf, p, x);
         base::put_byte(buf, q, 13)
     } else {
         base::put_byte(buf, at, 13)

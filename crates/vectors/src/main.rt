@@ -33,7 +33,7 @@ fn summed(s: &[u8]) {
     let mut buf = [0u8; 64];
     let p = base::put_text(&mut buf, 0, s);
     let q = base::put_byte(&mut buf, p, b'$');
-    let r = figures::put_hex(&mut buf, q, figures::sum(s));
+    let r = hex::put_hex(&mut buf, q, hex::sum(s));
     line(&mut buf, r);
 }
 

@@ -8,8 +8,8 @@ use Rattle.command.proofs.right_sum.Lts as lts
 use Rattle.base.proofs.wide.Reads as wide-reads
 use Rattle.figures.proofs.part_after.Reads as part-after-reads
 use Rattle.figures.proofs.part_before.Reads as part-before-reads
-use Rattle.figures.proofs.read_hex.Reads as read-hex-reads
-use Rattle.figures.proofs.sum.Reads as sum-reads
+use Rattle.hex.proofs.read_hex.Reads as read-hex-reads
+use Rattle.hex.proofs.sum.Reads as sum-reads
 
 sub-part-after : tie.Need-sub-part-after
 sub-part-after c = search needs

@@ -6,7 +6,7 @@ use Rattle.reply.proofs.put_answer.Tie as tie
 use Rattle.reply.proofs.put_answer.Reads as reads
 use Rattle.reply.proofs.put_answer.Lts as lts
 use Rattle.figures.proofs.put_figure.Reads as put-figure-reads
-use Rattle.figures.proofs.put_hex.Reads as put-hex-reads
+use Rattle.hex.proofs.put_hex.Reads as put-hex-reads
 use Rattle.reply.proofs.put_word.Reads as put-word-reads
 
 enum-known-a : tie.Need-enum-known-a

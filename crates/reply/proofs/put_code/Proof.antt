@@ -7,7 +7,7 @@ use Rattle.reply.proofs.put_code.Reads as reads
 use Rattle.reply.proofs.put_code.Lts as lts
 use Rattle.base.proofs.put_byte.Reads as put-byte-reads
 use Rattle.base.proofs.put_text.Reads as put-text-reads
-use Rattle.figures.proofs.hex_digit.Reads as hex-digit-reads
+use Rattle.hex.proofs.hex_digit.Reads as hex-digit-reads
 
 slice-aggregate-put-text : tie.Need-slice-aggregate-put-text
 slice-aggregate-put-text c = search needs

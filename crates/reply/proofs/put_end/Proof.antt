@@ -7,8 +7,8 @@ use Rattle.reply.proofs.put_end.Tie as tie
 use Rattle.reply.proofs.put_end.Reads as reads
 use Rattle.reply.proofs.put_end.Lts as lts
 use Rattle.base.proofs.put_byte.Reads as put-byte-reads
-use Rattle.figures.proofs.put_hex.Reads as put-hex-reads
-use Rattle.figures.proofs.sum.Reads as sum-reads
+use Rattle.hex.proofs.put_hex.Reads as put-hex-reads
+use Rattle.hex.proofs.sum.Reads as sum-reads
 
 returns : tie.Need-returns
 returns c = put-full _ _ _ (c .if1 .taken)

@@ -1,8 +1,8 @@
--- `figures::hex_digit` meets its contract.
+-- `hex::hex_digit` meets its contract.
 use borrow.Author.Needs.{needs}
 use borrow.Author.Tests.{lt-ltb, le-ltb}
-use Rattle.figures.proofs.hex_digit.Statement.{statement}
-use Rattle.figures.proofs.hex_digit.Tie as tie
+use Rattle.hex.proofs.hex_digit.Statement.{statement}
+use Rattle.hex.proofs.hex_digit.Tie as tie
 
 pub hex-digit-spec : {M : Type 1} → statement M
 hex-digit-spec =

@@ -1,9 +1,9 @@
--- `figures::put_hex` meets its contract.
+-- `hex::put_hex` meets its contract.
 use borrow.Author.Needs.{needs}
 use Rattle.base.proofs.Put.{put-then}
-use Rattle.figures.specs.Hex.{hexPair}
-use Rattle.figures.proofs.put_hex.Statement.{statement}
-use Rattle.figures.proofs.put_hex.Tie as tie
+use Rattle.hex.specs.Hex.{hexPair}
+use Rattle.hex.proofs.put_hex.Statement.{statement}
+use Rattle.hex.proofs.put_hex.Tie as tie
 
 pub put-hex-spec : {M : Type 1} → statement M
 unfolding hexPair

@@ -1,10 +1,10 @@
--- `figures::hex_of` meets its contract.
+-- `hex::hex_of` meets its contract.
 use borrow.Author.Needs.{needs}
 use borrow.Author.Tests.{le-leb, lt-leb}
 use native.Mathlib.Omega.{arith}
-use Rattle.figures.specs.Hex.{hexOf}
-use Rattle.figures.proofs.hex_of.Statement.{statement}
-use Rattle.figures.proofs.hex_of.Tie as tie
+use Rattle.hex.specs.Hex.{hexOf}
+use Rattle.hex.proofs.hex_of.Statement.{statement}
+use Rattle.hex.proofs.hex_of.Tie as tie
 
 pub hex-of-spec : {M : Type 1} → statement M
 unfolding hexOf

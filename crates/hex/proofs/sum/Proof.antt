@@ -1,13 +1,13 @@
--- `figures::sum` meets its contract. The loop's invariant: what was summed and what is left have the same sum as all, modulo 256.
+-- `hex::sum` meets its contract. The loop's invariant: what was summed and what is left have the same sum as all, modulo 256.
 use borrow.Author.Needs.{needs}
 use native.Mathlib.Omega.{arith}
 use Prim.Native.Nat.{_-_, _+_, _≤_, _<_, _%_}
 use mathlib.Core.Path.{_≡_}
 use lib.ListN.{length, drop}
-use Rattle.figures.specs.Hex.{total, checksum}
-use Rattle.figures.proofs.Hex.{total-step, total-end}
-use Rattle.figures.proofs.sum.Statement.{statement}
-use Rattle.figures.proofs.sum.Tie as tie
+use Rattle.hex.specs.Hex.{total, checksum}
+use Rattle.hex.proofs.Laws.{total-step, total-end}
+use Rattle.hex.proofs.sum.Statement.{statement}
+use Rattle.hex.proofs.sum.Tie as tie
 
 abbrev Inv : tie.InvT-loop
 Inv s t₀ i₀ t i = (i ≤ length s) × (t < 256) × ((t + total (drop i s)) % 256 ≡ total s % 256)

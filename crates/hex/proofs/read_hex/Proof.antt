@@ -1,11 +1,11 @@
--- `figures::read_hex` meets its contract.
+-- `hex::read_hex` meets its contract.
 use borrow.Author.Needs.{needs}
 use borrow.Author.Tests.{not-true, not-false}
 use mathlib.Core.Path.{_∙_}
 use mathlib.Core.Bool.{true, false}
-use Rattle.figures.proofs.Hex.{hex-length, hex-pick}
-use Rattle.figures.proofs.read_hex.Statement.{statement}
-use Rattle.figures.proofs.read_hex.Tie as tie
+use Rattle.hex.proofs.Laws.{hex-length, hex-pick}
+use Rattle.hex.proofs.read_hex.Statement.{statement}
+use Rattle.hex.proofs.read_hex.Tie as tie
 
 pub read-hex-spec : {M : Type 1} → statement M
 read-hex-spec =

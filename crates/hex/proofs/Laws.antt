@@ -11,8 +11,8 @@ use lib.Seq.{drop-cons}
 use borrow.Author.Tests.{le-leb, lt-leb, eq-eqb, ne-eqb, ltb-true, ltb-false, leb-true}
 use Rattle.base.specs.Choice.{pick}
 use Rattle.base.proofs.Choice.{and-both}
 use Rattle.figures.specs.Number.{numberIs, noNumber}
-use Rattle.figures.specs.Hex.{isHex, hexOf, readHex, hexDigit, hexPair, total, checksum}
+use Rattle.hex.specs.Hex.{isHex, hexOf, readHex, hexDigit, hexPair, total, checksum}
 
 pub length-hex : (b : ℕ) → length (hexPair b) ≡ 2
 unfolding hexPair

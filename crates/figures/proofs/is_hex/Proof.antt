@@ -1,9 +1,0 @@
--- `figures::is_hex` meets its contract.
-use mathlib.Core.Path.{refl}
-use Rattle.figures.specs.Hex.{isHex}
-use Rattle.figures.proofs.is_hex.Statement.{statement}
-use Rattle.figures.proofs.is_hex.Tie as tie
-
-pub is-hex-spec : {M : Type 1} → statement M
-unfolding isHex
-is-hex-spec = tie.close (tie.spec (λ c. refl))
