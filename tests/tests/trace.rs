@@ -53,7 +53,11 @@ fn wrong_places(cell: &str) -> Vec<String> {
         let mut text = None;
         for name in quoted(part) {
             if is_file(name) {
-                let path = if name.starts_with("tests/") { top().join(name) } else { top().join("crates").join(name) };
+                let path = if name.starts_with("tests/") {
+                    top().join(name)
+                } else {
+                    top().join("crates").join(name)
+                };
                 text = fs::read_to_string(path).ok();
                 if text.is_none() {
                     wrong.push(format!("no file {name}"));
@@ -70,7 +74,11 @@ fn wrong_places(cell: &str) -> Vec<String> {
 fn wrong_cases(cell: &str) -> Vec<String> {
     let is_case = |name: &&str| name.contains('-') && !name.contains('/');
     let there = |name: &&str| top().join("tests/cases").join(format!("{name}.script")).exists();
-    quoted(cell).filter(is_case).filter(|name| !there(name)).map(|name| format!("no case {name}")).collect()
+    quoted(cell)
+        .filter(is_case)
+        .filter(|name| !there(name))
+        .map(|name| format!("no case {name}"))
+        .collect()
 }
 
 #[test]

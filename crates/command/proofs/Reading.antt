@@ -1,4 +1,4 @@
--- What the code reads of a line, over plain lists: its word by number, its sum, and the bounds of a parameter.
+-- What the code reads of a line, over plain lists: its word by number, and its sum.
 use Prim.Native.Nat.{ℕ, _+_, _-_, _<_, _≤_}
 use mathlib.Core.Path.{_≡_, refl, sym, ap, _∙_}
 use mathlib.Core.List.{List}
@@ -8,23 +8,13 @@ use lib.Dec.{ltb, eqb, lit<}
 use lib.ListN.{length, getD, take, drop, length-take, List·getD-eq-default}
 use lib.Seq.{getD-take}
 use borrow.Author.Tests.{ltb-true, ltb-false}
-use Rattle.base.specs.Choice.{pick}
-use Rattle.base.proofs.Choice.{pick-keeps}
 use Rattle.figures.specs.declared.Number.{Number}
 use Rattle.figures.specs.Number.{firstAt}
 use Rattle.hex.specs.Hex.{readHex, checksum}
 use Rattle.words.specs.Words.{wordNumber, findNumber, upperAll}
 use Rattle.words.proofs.Table.{Bytes, find-by-number}
-use Rattle.command.specs.declared.Parameter.{Parameter}
-use Rattle.command.specs.Parameters.{needed, isEmpty, valueIs, refusedBy, c02, c03}
 use Rattle.command.specs.Words.{commands, unknownWord, commandOf, askedBy}
 use Rattle.command.specs.Lines.{wordOf, parameterText, summedPart, rightSum}
-
--- a needed parameter's value is below what the number read is below
-pub needed-small : (n : Number) (x : List ℕ) (b : ℕ) → n .value < b → needed n x .value < b
-needed-small n x b h =
-    pick-keeps (λ (p : Parameter). p .value < b) (isEmpty x) (refusedBy c02) (pick (n .good) (valueIs (n .value)) (refusedBy c03)) (omega arith)
-    (pick-keeps (λ (p : Parameter). p .value < b) (n .good) (valueIs (n .value)) (refusedBy c03) h (omega arith))
 
 -- the arm of a word with this number
 pub by-key : (x : List ℕ) {n k : ℕ} → n ≡ k → askedBy (findNumber unknownWord commands k) x ≡ askedBy (findNumber unknownWord commands n) x

@@ -1,3 +1,2 @@
-pub mod Parameters
 pub mod Words
 pub mod Lines

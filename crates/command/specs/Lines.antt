@@ -12,7 +12,7 @@ use Rattle.supply.specs.declared.Act.the-variants.{Nothing}
 use Rattle.command.specs.declared.Asks.{Asks}
 use Rattle.command.specs.declared.Asks.the-variants.{One, Error}
 use Rattle.command.specs.declared.Heard.{Heard}
-use Rattle.command.specs.Parameters.{isEmpty, c01, c04}
+use Rattle.parameters.specs.Parameters.{isEmpty, c01, c04}
 use Rattle.command.specs.Words.{commandOf, askedBy}
 
 -- a line has a sum where its third last character is $ (36)

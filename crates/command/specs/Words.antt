@@ -14,10 +14,10 @@ use Rattle.supply.specs.declared.Query.{Query}
 use Rattle.supply.specs.declared.Query.the-variants as query
 use Rattle.supply.specs.declared.Act.{Act}
 use Rattle.supply.specs.declared.Act.the-variants.{Obey, Ask}
-use Rattle.command.specs.declared.Parameter.{Parameter}
+use Rattle.parameters.specs.declared.Parameter.{Parameter}
 use Rattle.command.specs.declared.Asks.{Asks}
 use Rattle.command.specs.declared.Asks.the-variants.{Select, BadSelect, Everyone, Nobody, One, Error}
-use Rattle.command.specs.Parameters.{Kind, bare, number, switch, hex, address, unknown, c01, parameterOf}
+use Rattle.parameters.specs.Parameters.{Kind, bare, number, switch, hex, address, unknown, c01, parameterOf}
 
 -- a word: what it takes, what it asks with a good value, and what it is with a code
 pub record Command : Type 0 where

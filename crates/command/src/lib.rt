@@ -4,23 +4,14 @@ ghost use Prim.Native.Nat.{_+_, _-_, _<_, _≤_};
 ghost use lib.Dec.{eqb};
 ghost use lib.ListN.{length, drop};
 ghost use Rattle.base.specs.Choice.{pick};
-ghost use Rattle.figures.specs.declared.Number.{Number};
 ghost use Rattle.words.specs.Words.{findNumber};
-ghost use Rattle.command.specs.Parameters.{bare, number, switch, hex, address, readAddress, readSwitch, needed, within30, parameterOf};
+ghost use Rattle.parameters.specs.Parameters.{bare, number, switch, hex};
 ghost use Rattle.command.specs.Words.{commands, unknownWord, toOne, ofOne, toAll, selecting, askedBy};
 ghost use Rattle.command.specs.Lines.{heardAs, rightSum, asksOf, heardOf};
-use figures::Number;
 use supply::Act;
-use supply::C05;
 use supply::Order;
 use supply::Query;
 use supply::Target;
-
-// A parameter as it was read: code 0 and its value, or the code of what is wrong with it and 0.
-pub struct Parameter {
-    pub code: u8,
-    pub value: u64,
-}
 
 // What a line asks: to select an address (or it is an ADR in error, with its code); an order of every fitted supply
 // (or it is a global in error, which nobody takes); an act of one supply; or it is a line in error, with its code.
@@ -41,120 +32,7 @@ pub struct Heard {
 
 const C01: u8 = 0xC1;
 
-const C02: u8 = 0xC2;
-
-const C03: u8 = 0xC3;
-
 const C04: u8 = 0xC4;
-
-// A parameter that is needed: C02 where it is empty, C03 where it is no number.
-fn need(n: Number, x: &[u8]) -> Parameter
-    ensures { λ r. ⌜ r ≡ needed n (now (x .entry)) ⌝ }
-{
-    if x.len() == 0 {
-        return Parameter {
-            code: C02,
-            value: 0,
-        };
-    }
-    if n.good {
-        Parameter {
-            code: 0,
-            value: n.value,
-        }
-    } else {
-        Parameter {
-            code: C03,
-            value: 0,
-        }
-    }
-}
-
-// One digit from 0 to most.
-fn read_switch(x: &[u8], most: u8) -> Number
-    requires { ⌜ most < 10 ⌝ }
-    ensures { λ r. ⌜ (r ≡ readSwitch most (now (x .entry))) × (r .value < 256) ⌝ }
-{
-    if x.len() != 1 {
-        return figures::no_number();
-    }
-    let b = x[0];
-    if b < 48 {
-        return figures::no_number();
-    }
-    if 48 + most < b {
-        return figures::no_number();
-    }
-    Number {
-        good: true,
-        value: base::wide(b - 48),
-    }
-}
-
-// One or two digits.
-fn read_address(x: &[u8]) -> Number
-    ensures { λ r. ⌜ r ≡ readAddress (now (x .entry)) ⌝ }
-{
-    let n = x.len();
-    if 2 < n {
-        return figures::no_number();
-    }
-    if figures::all_digits(x) {
-        Number {
-            good: true,
-            value: figures::run_value(x, n),
-        }
-    } else {
-        figures::no_number()
-    }
-}
-
-fn bare_parameter(x: &[u8]) -> Parameter
-    ensures { λ r. ⌜ r ≡ parameterOf bare (now (x .entry)) ⌝ }
-{
-    if x.len() == 0 {
-        Parameter { code: 0, value: 0 }
-    } else {
-        Parameter {
-            code: C03,
-            value: 0,
-        }
-    }
-}
-
-fn number_parameter(x: &[u8], k: usize) -> Parameter
-    requires { ⌜ k ≤ 6 ⌝ }
-    ensures { λ r. ⌜ r ≡ parameterOf (number k) (now (x .entry)) ⌝ }
-{
-    need(figures::read_number(x, k), x)
-}
-
-fn switch_parameter(x: &[u8], most: u8) -> Parameter
-    requires { ⌜ most < 10 ⌝ }
-    ensures { λ r. ⌜ (r ≡ parameterOf (switch most) (now (x .entry))) × (r .value < 256) ⌝ }
-{
-    need(read_switch(x, most), x)
-}
-
-fn hex_parameter(x: &[u8]) -> Parameter
-    ensures { λ r. ⌜ (r ≡ parameterOf hex (now (x .entry))) × (r .value < 256) ⌝ }
-{
-    need(hex::read_hex(x), x)
-}
-
-fn address_parameter(x: &[u8]) -> Parameter
-    ensures { λ r. ⌜ (r ≡ parameterOf address (now (x .entry))) × (r .value < 31) ⌝ }
-{
-    let p = need(read_address(x), x);
-    if 30 < p.value {
-        Parameter {
-            code: C05,
-            value: 0,
-        }
-    } else {
-        p
-    }
-}
 
 // An order to one supply, or the code of its parameter.
 fn one_order(o: Order, code: u8) -> Asks
@@ -182,7 +60,7 @@ fn set_one(t: Target, k: usize, x: &[u8]) -> Asks
     requires { ⌜ k ≤ 6 ⌝ }
     ensures { λ r. ⌜ r ≡ askedBy (toOne (number k) (Order.Set t)) (now (x .entry)) ⌝ }
 {
-    let p = number_parameter(x, k);
+    let p = parameters::number_parameter(x, k);
     one_order(Order::Set(t, p.value), p.code)
 }
 
@@ -190,70 +68,70 @@ fn set_all(t: Target, k: usize, x: &[u8]) -> Asks
     requires { ⌜ k ≤ 6 ⌝ }
     ensures { λ r. ⌜ r ≡ askedBy (toAll (number k) (Order.Set t)) (now (x .entry)) ⌝ }
 {
-    let p = number_parameter(x, k);
+    let p = parameters::number_parameter(x, k);
     all_order(Order::Set(t, p.value), p.code)
 }
 
 fn out_one(x: &[u8]) -> Asks
     ensures { λ r. ⌜ r ≡ askedBy (toOne (switch 1) (λ v. Order.Out (eqb v 1))) (now (x .entry)) ⌝ }
 {
-    let p = switch_parameter(x, 1);
+    let p = parameters::switch_parameter(x, 1);
     one_order(Order::Out(p.value == 1), p.code)
 }
 
 fn out_all(x: &[u8]) -> Asks
     ensures { λ r. ⌜ r ≡ askedBy (toAll (switch 1) (λ v. Order.Out (eqb v 1))) (now (x .entry)) ⌝ }
 {
-    let p = switch_parameter(x, 1);
+    let p = parameters::switch_parameter(x, 1);
     all_order(Order::Out(p.value == 1), p.code)
 }
 
 fn fld_one(x: &[u8]) -> Asks
     ensures { λ r. ⌜ r ≡ askedBy (toOne (switch 1) (λ v. Order.Fld (eqb v 1))) (now (x .entry)) ⌝ }
 {
-    let p = switch_parameter(x, 1);
+    let p = parameters::switch_parameter(x, 1);
     one_order(Order::Fld(p.value == 1), p.code)
 }
 
 fn ast_one(x: &[u8]) -> Asks
     ensures { λ r. ⌜ r ≡ askedBy (toOne (switch 1) (λ v. Order.Ast (eqb v 1))) (now (x .entry)) ⌝ }
 {
-    let p = switch_parameter(x, 1);
+    let p = parameters::switch_parameter(x, 1);
     one_order(Order::Ast(p.value == 1), p.code)
 }
 
 fn rmt_one(x: &[u8]) -> Asks
     ensures { λ r. ⌜ r ≡ askedBy (toOne (switch 2) Order.Rmt) (now (x .entry)) ⌝ }
 {
-    let p = switch_parameter(x, 2);
+    let p = parameters::switch_parameter(x, 2);
     one_order(Order::Rmt(p.value as u8), p.code)
 }
 
 fn fena_one(x: &[u8]) -> Asks
     ensures { λ r. ⌜ r ≡ askedBy (toOne hex Order.Fena) (now (x .entry)) ⌝ }
 {
-    let p = hex_parameter(x);
+    let p = parameters::hex_parameter(x);
     one_order(Order::Fena(p.value as u8), p.code)
 }
 
 fn bare_one(o: Order, x: &[u8]) -> Asks
     ensures { λ r. ⌜ r ≡ askedBy (toOne bare (λ v. o)) (now (x .entry)) ⌝ }
 {
-    let p = bare_parameter(x);
+    let p = parameters::bare_parameter(x);
     one_order(o, p.code)
 }
 
 fn bare_all(o: Order, x: &[u8]) -> Asks
     ensures { λ r. ⌜ r ≡ askedBy (toAll bare (λ v. o)) (now (x .entry)) ⌝ }
 {
-    let p = bare_parameter(x);
+    let p = parameters::bare_parameter(x);
     all_order(o, p.code)
 }
 
 fn query_one(q: Query, x: &[u8]) -> Asks
     ensures { λ r. ⌜ r ≡ askedBy (ofOne q) (now (x .entry)) ⌝ }
 {
-    let p = bare_parameter(x);
+    let p = parameters::bare_parameter(x);
     if p.code == 0 {
         Asks::One(Act::Ask(q))
     } else {
@@ -264,7 +142,7 @@ fn query_one(q: Query, x: &[u8]) -> Asks
 fn select_one(x: &[u8]) -> Asks
     ensures { λ r. ⌜ r ≡ askedBy selecting (now (x .entry)) ⌝ }
 {
-    let p = address_parameter(x);
+    let p = parameters::address_parameter(x);
     if p.code == 0 {
         Asks::Select(p.value as u8)
     } else {

@@ -18,7 +18,7 @@ use Rattle.acts.specs.Acts.{codeOf, clearingQuery, clearingOrder, clearingAct, 
 use Rattle.acts.specs.Answers.{answerOf}
 use Rattle.acts.specs.Releases.{Trip, ovp, releases}
 use Rattle.words.specs.Words.{findWord}
-use Rattle.command.specs.Parameters.{readAs, parameterOf}
+use Rattle.parameters.specs.Parameters.{readAs, parameterOf}
 use Rattle.command.specs.Words.{askedBy}
 use Rattle.command.specs.Lines.{rightSum, asksOf, heardOf}
 use Rattle.reply.specs.Texts.{codeText, wordText, answerText, ending}

@@ -14,10 +14,10 @@ use Rattle.wire.specs.Wire.{Class, select, faulty, global, other}
 use Rattle.supply.specs.declared.Supply.{Supply}
 use Rattle.supply.specs.declared.Act.the-variants.{Nothing}
 use Rattle.supply.specs.State.{c05}
-use Rattle.command.specs.declared.Parameter.{Parameter}
+use Rattle.parameters.specs.declared.Parameter.{Parameter}
 use Rattle.command.specs.declared.Asks.{Asks}
 use Rattle.command.specs.declared.Asks.the-variants.{Select, BadSelect, Everyone, Nobody, One, Error}
-use Rattle.command.specs.Parameters.{address, c04, isEmpty, needed, within30, readAs, refusedBy, parameterOf}
+use Rattle.parameters.specs.Parameters.{address, c04, isEmpty, needed, within30, readAs, refusedBy, parameterOf}
 use Rattle.command.specs.Words.{Command, commands, selecting, unknownWord, commandOf, askedBy}
 use Rattle.command.specs.Lines.{hasSum, rightSum, summedPart, wordOf, parameterText, asksOf, heardAs, heardOf}
 use Rattle.protocol.specs.Sent.{repliedTo}

@@ -14,7 +14,7 @@ use Rattle.orders.specs.Orders.{setCode, orderCode, remote, remoteBy, outDone, 
 use Rattle.acts.specs.Acts.{codeOf, clearingQuery, clearingOrder, clearingAct, acted, performed}
 use Rattle.acts.specs.Answers.{answerOf}
 use Rattle.words.specs.Words.{findWord}
-use Rattle.command.specs.Parameters.{readAs, parameterOf}
+use Rattle.parameters.specs.Parameters.{readAs, parameterOf}
 use Rattle.command.specs.Words.{askedBy}
 use Rattle.command.specs.Lines.{rightSum, asksOf, heardOf}
 use Rattle.reply.specs.Texts.{codeText, wordText, answerText, ending}

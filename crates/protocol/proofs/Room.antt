@@ -32,7 +32,7 @@ use Rattle.acts.specs.Acts.{codeOf}
 use Rattle.acts.specs.Answers.{answerOf, switchOf, modeWord, running}
 use Rattle.command.specs.declared.Asks.{Asks}
 use Rattle.command.specs.declared.Asks.the-variants.{Select, BadSelect, Everyone, Nobody, One, Error}
-use Rattle.command.specs.Parameters.{c01, c04, isEmpty, parameterOf}
+use Rattle.parameters.specs.Parameters.{c01, c04, isEmpty, parameterOf}
 use Rattle.command.specs.Words.{Command, commands, unknownWord, commandOf, askedBy}
 use Rattle.command.specs.Lines.{hasSum, rightSum, summedPart, wordOf, parameterText, asksOf, heardAs, heardOf}
 use Rattle.reply.specs.Texts.{codeText, wordText, answerText, ending, replyOf}

@@ -28,7 +28,7 @@ use Rattle.acts.specs.Acts.{codeOf, clearingOrder, clearingAct, acted, performe
 use Rattle.acts.specs.Answers.{answerOf}
 use Rattle.acts.proofs.Keeps.{admissible-accepted}
 use Rattle.command.specs.declared.Asks.the-variants.{One}
-use Rattle.command.specs.Parameters.{number, isEmpty, readAs, parameterOf}
+use Rattle.parameters.specs.Parameters.{number, isEmpty, readAs, parameterOf}
 use Rattle.command.specs.Words.{toOne, askedBy}
 use Rattle.command.specs.Lines.{hasSum, asksOf, heardAs, heardOf}
 use Rattle.reply.specs.Texts.{answerText, ending}

@@ -3,7 +3,7 @@ use mathlib.Core.Path.{_∙_}
 use Rattle.words.specs.Words.{findNumber}
 use Rattle.words.proofs.Table.{find-none}
 use Rattle.command.specs.Words.{askedBy, commands, unknownWord}
-use Rattle.command.specs.Parameters.{parameterOf}
+use Rattle.parameters.specs.Parameters.{parameterOf}
 use Rattle.command.proofs.Reading.{by-key}
 use borrow.Author.Needs.{needs}
 use Rattle.command.proofs.asks_of_word.Statement.{statement}

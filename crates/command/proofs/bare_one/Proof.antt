@@ -5,7 +5,7 @@ use Rattle.command.proofs.bare_one.Statement.{statement}
 use Rattle.command.proofs.bare_one.Tie as tie
 use Rattle.command.proofs.bare_one.Reads as reads
 use Rattle.command.proofs.bare_one.Lts as lts
-use Rattle.command.proofs.bare_parameter.Reads as bare-parameter-reads
+use Rattle.parameters.proofs.bare_parameter.Reads as bare-parameter-reads
 use Rattle.command.proofs.one_order.Reads as one-order-reads
 
 bare-parameter-requires : tie.Need-bare-parameter-requires

@@ -5,7 +5,7 @@ use Rattle.command.proofs.fena_one.Statement.{statement}
 use Rattle.command.proofs.fena_one.Tie as tie
 use Rattle.command.proofs.fena_one.Reads as reads
 use Rattle.command.proofs.fena_one.Lts as lts
-use Rattle.command.proofs.hex_parameter.Reads as hex-parameter-reads
+use Rattle.parameters.proofs.hex_parameter.Reads as hex-parameter-reads
 use Rattle.command.proofs.one_order.Reads as one-order-reads
 
 hex-parameter-requires : tie.Need-hex-parameter-requires

@@ -6,7 +6,7 @@ use Rattle.command.proofs.out_all.Tie as tie
 use Rattle.command.proofs.out_all.Reads as reads
 use Rattle.command.proofs.out_all.Lts as lts
 use Rattle.command.proofs.all_order.Reads as all-order-reads
-use Rattle.command.proofs.switch_parameter.Reads as switch-parameter-reads
+use Rattle.parameters.proofs.switch_parameter.Reads as switch-parameter-reads
 
 switch-parameter-requires : tie.Need-switch-parameter-requires
 switch-parameter-requires c κs = search needs

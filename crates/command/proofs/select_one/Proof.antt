@@ -6,7 +6,7 @@ use Rattle.command.proofs.select_one.Statement.{statement}
 use Rattle.command.proofs.select_one.Tie as tie
 use Rattle.command.proofs.select_one.Reads as reads
 use Rattle.command.proofs.select_one.Lts as lts
-use Rattle.command.proofs.address_parameter.Reads as address-parameter-reads
+use Rattle.parameters.proofs.address_parameter.Reads as address-parameter-reads
 
 address-parameter-requires : tie.Need-address-parameter-requires
 address-parameter-requires c κs = search needs

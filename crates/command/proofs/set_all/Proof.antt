@@ -6,7 +6,7 @@ use Rattle.command.proofs.set_all.Tie as tie
 use Rattle.command.proofs.set_all.Reads as reads
 use Rattle.command.proofs.set_all.Lts as lts
 use Rattle.command.proofs.all_order.Reads as all-order-reads
-use Rattle.command.proofs.number_parameter.Reads as number-parameter-reads
+use Rattle.parameters.proofs.number_parameter.Reads as number-parameter-reads
 
 number-parameter-requires : tie.Need-number-parameter-requires
 number-parameter-requires c κs = search needs

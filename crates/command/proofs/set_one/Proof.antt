@@ -5,7 +5,7 @@ use Rattle.command.proofs.set_one.Statement.{statement}
 use Rattle.command.proofs.set_one.Tie as tie
 use Rattle.command.proofs.set_one.Reads as reads
 use Rattle.command.proofs.set_one.Lts as lts
-use Rattle.command.proofs.number_parameter.Reads as number-parameter-reads
+use Rattle.parameters.proofs.number_parameter.Reads as number-parameter-reads
 use Rattle.command.proofs.one_order.Reads as one-order-reads
 
 number-parameter-requires : tie.Need-number-parameter-requires

@@ -3,10 +3,10 @@ use borrow.Author.Tests.{lt-ltb, le-ltb}
 use native.Mathlib.Omega.{arith}
 use lib.ListN.{length}
 use borrow.Author.Needs.{needs}
-use Rattle.command.proofs.read_address.Statement.{statement}
-use Rattle.command.proofs.read_address.Tie as tie
-use Rattle.command.proofs.read_address.Reads as reads
-use Rattle.command.proofs.read_address.Lts as lts
+use Rattle.parameters.proofs.read_address.Statement.{statement}
+use Rattle.parameters.proofs.read_address.Tie as tie
+use Rattle.parameters.proofs.read_address.Reads as reads
+use Rattle.parameters.proofs.read_address.Lts as lts
 use Rattle.figures.proofs.all_digits.Reads as all-digits-reads
 use Rattle.figures.proofs.no_number.Reads as no-number-reads
 use Rattle.figures.proofs.run_value.Reads as run-value-reads

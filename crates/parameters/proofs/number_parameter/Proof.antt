@@ -1,11 +1,11 @@
 -- `number_parameter` meets its contract.
-use Rattle.command.specs.Parameters.{parameterOf, readAs}
+use Rattle.parameters.specs.Parameters.{parameterOf, readAs}
 use borrow.Author.Needs.{needs}
-use Rattle.command.proofs.number_parameter.Statement.{statement}
-use Rattle.command.proofs.number_parameter.Tie as tie
-use Rattle.command.proofs.number_parameter.Reads as reads
-use Rattle.command.proofs.number_parameter.Lts as lts
-use Rattle.command.proofs.need.Reads as need-reads
+use Rattle.parameters.proofs.number_parameter.Statement.{statement}
+use Rattle.parameters.proofs.number_parameter.Tie as tie
+use Rattle.parameters.proofs.number_parameter.Reads as reads
+use Rattle.parameters.proofs.number_parameter.Lts as lts
+use Rattle.parameters.proofs.need.Reads as need-reads
 use Rattle.figures.proofs.read_number.Reads as read-number-reads
 
 read-number-requires : tie.Need-read-number-requires

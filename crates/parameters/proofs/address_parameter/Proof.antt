@@ -2,14 +2,14 @@
 use borrow.Author.Tests.{lt-ltb, le-ltb}
 use native.Mathlib.Omega.{arith}
 use lib.Dec.{lit<}
-use Rattle.command.specs.Parameters.{parameterOf, readAs}
+use Rattle.parameters.specs.Parameters.{parameterOf, readAs}
 use borrow.Author.Needs.{needs}
-use Rattle.command.proofs.address_parameter.Statement.{statement}
-use Rattle.command.proofs.address_parameter.Tie as tie
-use Rattle.command.proofs.address_parameter.Reads as reads
-use Rattle.command.proofs.address_parameter.Lts as lts
-use Rattle.command.proofs.need.Reads as need-reads
-use Rattle.command.proofs.read_address.Reads as read-address-reads
+use Rattle.parameters.proofs.address_parameter.Statement.{statement}
+use Rattle.parameters.proofs.address_parameter.Tie as tie
+use Rattle.parameters.proofs.address_parameter.Reads as reads
+use Rattle.parameters.proofs.address_parameter.Lts as lts
+use Rattle.parameters.proofs.need.Reads as need-reads
+use Rattle.parameters.proofs.read_address.Reads as read-address-reads
 
 read-address-requires : tie.Need-read-address-requires
 read-address-requires c κs = search needs

@@ -1,10 +1,10 @@
 -- `bare_parameter` meets its contract.
 use borrow.Author.Tests.{eq-eqb, ne-eqb}
-use Rattle.command.specs.Parameters.{parameterOf}
-use Rattle.command.proofs.bare_parameter.Statement.{statement}
-use Rattle.command.proofs.bare_parameter.Tie as tie
-use Rattle.command.proofs.bare_parameter.Reads as reads
-use Rattle.command.proofs.bare_parameter.Lts as lts
+use Rattle.parameters.specs.Parameters.{parameterOf}
+use Rattle.parameters.proofs.bare_parameter.Statement.{statement}
+use Rattle.parameters.proofs.bare_parameter.Tie as tie
+use Rattle.parameters.proofs.bare_parameter.Reads as reads
+use Rattle.parameters.proofs.bare_parameter.Lts as lts
 
 returns : tie.Need-returns
 unfolding parameterOf

@@ -1,14 +1,14 @@
 use Rattle.hex.specs.Hex.{readHex}
 -- `hex_parameter` meets its contract.
-use Rattle.command.specs.Parameters.{parameterOf, readAs}
-use Rattle.command.proofs.Reading.{needed-small}
+use Rattle.parameters.specs.Parameters.{parameterOf, readAs}
+use Rattle.parameters.proofs.Bounds.{needed-small}
 use Rattle.hex.proofs.Laws.{hex-lt}
 use borrow.Author.Needs.{needs}
-use Rattle.command.proofs.hex_parameter.Statement.{statement}
-use Rattle.command.proofs.hex_parameter.Tie as tie
-use Rattle.command.proofs.hex_parameter.Reads as reads
-use Rattle.command.proofs.hex_parameter.Lts as lts
-use Rattle.command.proofs.need.Reads as need-reads
+use Rattle.parameters.proofs.hex_parameter.Statement.{statement}
+use Rattle.parameters.proofs.hex_parameter.Tie as tie
+use Rattle.parameters.proofs.hex_parameter.Reads as reads
+use Rattle.parameters.proofs.hex_parameter.Lts as lts
+use Rattle.parameters.proofs.need.Reads as need-reads
 use Rattle.hex.proofs.read_hex.Reads as read-hex-reads
 
 read-hex-requires : tie.Need-read-hex-requires

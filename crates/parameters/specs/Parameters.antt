@@ -10,7 +10,7 @@ use Rattle.figures.specs.Digits.{allDigits, runValue}
 use Rattle.figures.specs.Number.{readNumber, numberIs, noNumber}
 use Rattle.hex.specs.Hex.{readHex}
 use Rattle.supply.specs.State.{c05}
-use Rattle.command.specs.declared.Parameter.{Parameter}
+use Rattle.parameters.specs.declared.Parameter.{Parameter}
 
 -- the codes of a line that no supply is asked about; a code reads as its name in hexadecimal. C05 is an order's too, and
 -- stands with those

@@ -1,13 +1,13 @@
 -- `switch_parameter` meets its contract.
-use Rattle.command.specs.Parameters.{parameterOf, readAs}
-use Rattle.command.proofs.Reading.{needed-small}
+use Rattle.parameters.specs.Parameters.{parameterOf, readAs}
+use Rattle.parameters.proofs.Bounds.{needed-small}
 use borrow.Author.Needs.{needs}
-use Rattle.command.proofs.switch_parameter.Statement.{statement}
-use Rattle.command.proofs.switch_parameter.Tie as tie
-use Rattle.command.proofs.switch_parameter.Reads as reads
-use Rattle.command.proofs.switch_parameter.Lts as lts
-use Rattle.command.proofs.need.Reads as need-reads
-use Rattle.command.proofs.read_switch.Reads as read-switch-reads
+use Rattle.parameters.proofs.switch_parameter.Statement.{statement}
+use Rattle.parameters.proofs.switch_parameter.Tie as tie
+use Rattle.parameters.proofs.switch_parameter.Reads as reads
+use Rattle.parameters.proofs.switch_parameter.Lts as lts
+use Rattle.parameters.proofs.need.Reads as need-reads
+use Rattle.parameters.proofs.read_switch.Reads as read-switch-reads
 
 read-switch-requires : tie.Need-read-switch-requires
 read-switch-requires c κs = search needs

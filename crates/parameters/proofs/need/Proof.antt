@@ -1,9 +1,9 @@
 -- `need` meets its contract.
 use borrow.Author.Tests.{eq-eqb, ne-eqb}
-use Rattle.command.proofs.need.Statement.{statement}
-use Rattle.command.proofs.need.Tie as tie
-use Rattle.command.proofs.need.Reads as reads
-use Rattle.command.proofs.need.Lts as lts
+use Rattle.parameters.proofs.need.Statement.{statement}
+use Rattle.parameters.proofs.need.Tie as tie
+use Rattle.parameters.proofs.need.Reads as reads
+use Rattle.parameters.proofs.need.Lts as lts
 
 returns : tie.Need-returns
 returns c = rw (eq-eqb _ _ (c .if1 .taken))
