@@ -261,7 +261,7 @@ fn asks_of(t: &[u8]) -> Asks
         return Asks::One(Act::Nothing);
     }
     let p = figures::first_at(t, b' ');
-    let word = words::word_number(figures::part_before(t, p));
+    let word = words::word_number(base::part_to(t, p));
     asks_of_word(word, figures::part_after(t, p))
 }
 
@@ -278,7 +278,7 @@ fn right_sum(s: &[u8]) -> bool
 {
     let n = s.len();
     let told = hex::read_hex(figures::part_after(s, n - 3));
-    let sum = hex::sum(figures::part_before(s, n - 3));
+    let sum = hex::sum(base::part_to(s, n - 3));
     told.good & (told.value == base::wide(sum))
 }
 
@@ -297,7 +297,7 @@ pub fn read_line(s: &[u8], spoiled: bool) -> Heard
         return heard_as(asks_of(s), false);
     }
     if right_sum(s) {
-        heard_as(asks_of(figures::part_before(s, n - 3)), true)
+        heard_as(asks_of(base::part_to(s, n - 3)), true)
     } else {
         heard_as(Asks::Error(C04), false)
     }

@@ -1,48 +1,28 @@
 // The program: standard input brings a fitting list and then fields; what they draw goes to standard output, its lines ended
 // by LF. A field is answered as soon as its last byte is there. A refusal is printed and ends the program.
 ghost use mathlib.Core.Path.{_≡_};
-ghost use mathlib.Core.Bool.{true};
-ghost use Prim.Native.Nat.{_≤_, _<_};
-ghost use lib.ListN.{length};
+ghost use mathlib.Core.Bool.{_||_};
+ghost use lib.Dec.{eqb};
+ghost use Prim.Native.Nat.{_≤_};
+ghost use lib.ListN.{length, take, drop};
 ghost use Rattle.base.specs.Lists.{eachTo};
 ghost use Rattle.controller.specs.Printed.{printed};
+ghost use Rattle.controller.specs.Input.{AllWorked, InputDoes};
 use libc::STDIN_FILENO;
 use libc::STDOUT_FILENO;
 use slots::Rack;
+use turn::Worked;
 
 // The bytes of a fitting list.
 const LIST: usize = 31;
 
-// Replies wait for each other up to this index of their buffer, behind which there is room for those of any call.
-const FULL: usize = 61_440;
-
 // More reads than any run makes.
 const READS: u64 = u64::MAX;
 
-// Fields worked one after the other: the rack after them, the bytes that they had, the index after the replies that wait, the
-// code of the last call, and whether there may be more fields.
-struct Worked {
-    rack: Rack,
-    used: usize,
-    next: usize,
-    code: u8,
-    more: bool,
-}
-
-fn least(a: usize, b: usize) -> usize
-    ensures { λ r. ⌜ (r ≤ b) × (a ≤ b → r ≡ a) ⌝ }
+// A field that is cut off may be waiting for its other bytes.
+fn waits(code: u8) -> bool
+    ensures { λ r. ⌜ r ≡ (eqb code 2 || eqb code 5) ⌝ }
 {
-    if a < b { a } else { b }
-}
-
-// The bytes before an index; all where it is past the end.
-fn part_to(s: &[u8], n: usize) -> &[u8] {
-    let end = least(n, s.len());
-    &s[..end]
-}
-
-// A field that is cut off may only be waiting for its other bytes.
-fn waits(code: u8) -> bool {
     (code == 2) | (code == 5)
 }
 
@@ -62,7 +42,7 @@ fn printed_byte(b: u8) -> u8
 fn end_lines(out: &mut [u8], n: usize)
     ensures { λ _. ⌜ (n ≤ length (now (out .entry)) → now (out .exit) ≡ eachTo (λ i b. printed b) n (now (out .entry))) ⌝ }
 {
-    let end = least(n, out.len());
+    let end = base::least(n, out.len());
     let mut i = 0;
     while i < end {
         out[i] = printed_byte(out[i]);
@@ -70,44 +50,17 @@ fn end_lines(out: &mut [u8], n: usize)
     }
 }
 
-// Writes the replies that wait, and tells the index for the next one.
-fn write_out(out: &mut [u8], n: usize) -> usize {
+// Writes the replies that wait before an index.
+fn write_out(out: &mut [u8], n: usize) {
     end_lines(out, n);
-    io::write_all(STDOUT_FILENO, part_to(out, n));
-    0
+    io::write_all(STDOUT_FILENO, base::part_to(out, n));
 }
 
-// The index for the next reply, once those that fill the buffer are written.
-fn next_index(out: &mut [u8], n: usize) -> usize {
-    if n < FULL { n } else { write_out(out, n) }
-}
-
-// Works fields from the start of the bytes on. Most go by `feed`, which copies the rack once for all of them; the one that it
-// leaves is for `call`.
-fn take_some(r: Rack, s: &[u8], reply: &mut [u8], out: &mut [u8], at: usize) -> Worked
-    ensures { λ w. ⌜ (w .used ≤ length (now (s .entry))) × (w .more ≡ true → 0 < w .used) ⌝ }
+// Works the fields of the bytes until a call refuses, at the latest for want of bytes, and writes the replies of each turn.
+fn take_fields(r: Rack, s: &[u8], reply: &mut [u8], out: &mut [u8]) -> Worked
+    requires { ⌜ (r .line .count ≤ 64) × (length (now reply) ≡ 4096) × (length (now out) ≡ 65536) ⌝ }
+    ensures { λ w. ⌜ AllWorked r (now (s .entry)) w ⌝ }
 {
-    let start = next_index(out, at);
-    let fed = feed::feed(r, s, out, start, FULL);
-    let rest = base::part_from(s, fed.used);
-    let between = fed.rack;
-    let a = rack::call(between, rest, reply);
-    let then = next_index(out, fed.next);
-    let next = base::put_text(out, then, part_to(reply, a.length));
-    let n = least(a.used, rest.len());
-    let rack = a.rack;
-    let code = a.code;
-    Worked {
-        rack,
-        used: s.len() - (rest.len() - n),
-        next,
-        code,
-        more: 0 < n,
-    }
-}
-
-// Works the fields of the bytes until a call refuses: at the latest, for want of bytes.
-fn take_fields(r: Rack, s: &[u8], reply: &mut [u8], out: &mut [u8]) -> Worked {
     let mut w = Worked {
         rack: r,
         used: 0,
@@ -118,18 +71,19 @@ fn take_fields(r: Rack, s: &[u8], reply: &mut [u8], out: &mut [u8]) -> Worked {
     let mut used = 0;
     while w.more {
         let rack = w.rack;
-        let next = w.next;
-        w = take_some(rack, base::part_from(s, used), reply, out, next);
+        w = turn::work(rack, base::part_from(s, used), reply, out);
+        write_out(out, w.next);
         used += w.used;
     }
-    let next = w.next;
-    write_out(out, next);
     w.used = used;
     w
 }
 
-// Reads what is there behind the bytes that are kept; their number stays where the input has ended.
-fn take_block(room: &mut [u8], kept: usize) -> usize {
+// Reads what is there behind the bytes that are kept; their number stays where no byte comes. There is always room: a field that waits
+// for its other bytes has 18 at most.
+fn take_block(room: &mut [u8], kept: usize) -> usize
+    ensures { λ n. ⌜ (take kept (now (room .exit)) ≡ take kept (now (room .entry))) × (kept ≤ n) × (kept ≤ length (now (room .exit)) → n ≤ length (now (room .exit))) ⌝ }
+{
     if kept < room.len() {
         let free = &mut room[kept..];
         let got = libc::read(STDIN_FILENO, free);
@@ -139,9 +93,11 @@ fn take_block(room: &mut [u8], kept: usize) -> usize {
     }
 }
 
-// Moves the bytes from an index on to the start, and tells how many they are.
-fn keep_rest(room: &mut [u8], used: usize, n: usize) -> usize {
-    let end = least(n, room.len());
+// Of the first n bytes, moves those from an index on to the start, and tells how many they are.
+fn keep_rest(room: &mut [u8], used: usize, n: usize) -> usize
+    ensures { λ k. ⌜ (take k (now (room .exit)) ≡ drop used (take n (now (room .entry)))) × (k ≤ length (now (room .exit))) ⌝ }
+{
+    let end = base::least(n, room.len());
     let mut from = used;
     let mut i = 0;
     while from < end {
@@ -153,7 +109,10 @@ fn keep_rest(room: &mut [u8], used: usize, n: usize) -> usize {
 }
 
 // Works the input to its end, or to the first refusal, and tells its number, or 0.
-fn take_input(r: Rack, room: &mut [u8], reply: &mut [u8], out: &mut [u8]) -> u8 {
+fn take_input(r: Rack, room: &mut [u8], reply: &mut [u8], out: &mut [u8]) -> u8
+    requires { ⌜ (r .line .count ≤ 64) × (length (now reply) ≡ 4096) × (length (now out) ≡ 65536) ⌝ }
+    ensures { λ n. ⌜ InputDoes r n ⌝ }
+{
     let mut rack = r;
     let mut kept = 0;
     let mut code = 2;
@@ -161,14 +120,14 @@ fn take_input(r: Rack, room: &mut [u8], reply: &mut [u8], out: &mut [u8]) -> u8 
     let mut reads = READS;
     while 0 < reads && more {
         let n = take_block(room, kept);
-        let worked = take_fields(rack, part_to(room, n), reply, out);
+        let worked = take_fields(rack, base::part_to(room, n), reply, out);
         rack = worked.rack;
         code = worked.code;
         more = (kept < n) & waits(code);
         kept = keep_rest(room, worked.used, n);
         reads -= 1;
     }
-    if (kept == 0) & waits(code) { 0 } else { code }
+    if kept == 0 { 0 } else { code }
 }
 
 fn main() {

@@ -150,7 +150,7 @@ fn is_reply(buf: &[u8], length: usize, text: &[u8]) -> bool {
     if buf.len() <= n {
         return false;
     }
-    check::same(figures::part_before(buf, n), text) & (buf[n] == 13) & (length == n + 1)
+    check::same(base::part_to(buf, n), text) & (buf[n] == 13) & (length == n + 1)
 }
 
 fn take_model(t: Talk, text: &[u8]) -> Talk {
@@ -177,7 +177,7 @@ fn take_line(said: &mut [u8; REPLY_ROOM], t: Talk, text: &[u8], spoiled: bool) -
         return wrong_item(r);
     }
     let s = t.supply;
-    let done = hear_line(t.model, s, figures::part_before(&line, n), spoiled, said);
+    let done = hear_line(t.model, s, base::part_to(&line, n), spoiled, said);
     let after = done.supply;
     r.supply = after;
     r.length = done.next;
@@ -198,7 +198,7 @@ fn take_reply(said: &[u8; REPLY_ROOM], t: Talk, text: &[u8]) -> Talk {
 // An item is a word, and what follows the first space.
 fn take_item(said: &mut [u8; REPLY_ROOM], t: Talk, item: &[u8]) -> Talk {
     let p = figures::first_at(item, b' ');
-    let word = figures::part_before(item, p);
+    let word = base::part_to(item, p);
     let text = figures::part_after(item, p);
     let mut r = t;
     r.items = one_more(t.items);
@@ -233,7 +233,7 @@ fn take_items(s: &[u8]) -> Talk {
     let mut rest = s;
     while 0 < rest.len() {
         let p = figures::first_at(rest, b'\n');
-        t = take_item(&mut said, t, figures::part_before(rest, p));
+        t = take_item(&mut said, t, base::part_to(rest, p));
         let after = figures::part_after(rest, p);
         rest = after;
     }

@@ -45,7 +45,8 @@ run-then l cs m g s q n t e =
       leads = leads-then cs (fieldAt s ∷ []) (g .fitting .rack) m (packed q) (g .leads) (one-call m s q n t (short-after l cs m g s q n t e) e);
     }
 
-abbrev Reached : List ℕ → List Call → wire.Rack Supply → Type 0
+-- a run on the list l, of these calls, leads to a rack with this view
+abbrev pub Reached : List ℕ → List Call → wire.Rack Supply → Type 0
 Reached l cs q = (m : Rack) × Run l cs m × (viewOf m ≡ q)
 
 one-more : (l : List ℕ) (cs : List Call) (p q : wire.Rack Supply) (s : List ℕ) (n : ℕ) (t : List ℕ) → callOf plainSupply p (fieldAt s) ≡ done q n t → Reached l cs p → Reached l (cs ++ fieldAt s ∷ []) q
@@ -57,7 +58,8 @@ none-more l cs v h = rw append-nil h
 joined : (l : List ℕ) (cs ds : List Call) (c : Call) (q : wire.Rack Supply) → Reached l (cs ++ ds ++ c ∷ []) q → Reached l (cs ++ (ds ++ c ∷ [])) q
 joined l cs ds c q h = rw (← append-assoc cs ds (c ∷ [])) h
 
-works-run : (l : List ℕ) (cs : List Call) (v : wire.Rack Supply) (s : List ℕ) → Reached l cs v → (q : wire.Rack Supply) (used : ℕ) (t : List ℕ) (w : Works v s q used t) → Reached l (cs ++ fieldsOf w) q
+-- accepted calls in turn, behind a run, are a longer run
+pub works-run : (l : List ℕ) (cs : List Call) (v : wire.Rack Supply) (s : List ℕ) → Reached l cs v → (q : wire.Rack Supply) (used : ℕ) (t : List ℕ) (w : Works v s q used t) → Reached l (cs ++ fieldsOf w) q
 works-run l cs v s h q used t none = none-more l cs v h
 works-run l cs v s h q used t (more p q′ k n x y w e) = joined l cs (fieldsOf w) (fieldAt (drop k s)) q′ (one-more l (cs ++ fieldsOf w) p q′ (drop k s) n y e (works-run l cs v s h p k x w))
 

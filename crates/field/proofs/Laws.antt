@@ -1,16 +1,16 @@
 -- What a field's bytes come to: a law for each outcome, what a good head says of the payload, and the bounds of its numbers.
 use Prim.Native.Nat.{ℕ, suc, _+_, _^_, _≤_, _<_}
-use mathlib.Core.Path.{_≡_, refl, sym, _∙_}
-use mathlib.Core.List.{List, [], _∷_, map}
-use mathlib.Core.Bool.{Bool, true, false, not, _&&_}
+use mathlib.Core.Path.{_≡_, refl, sym, ap, _∙_}
+use mathlib.Core.List.{List, [], _∷_, _++_, map}
+use mathlib.Core.Bool.{Bool, true, false, not, _&&_, false≢true}
 use native.Mathlib.Omega.{arith}
 use lib.Dec.{leb, ltb, eqb}
-use lib.ListN.{length, getD, drop, length-drop}
-use lib.Seq.{getD-take, getD-drop, length-take-le}
-use borrow.Author.Tests.{ltb-false, leb-true, eqb-true, not-false, lt-ltb, le-ltb, eq-eqb, ne-eqb}
+use lib.ListN.{length, getD, take, drop, length-drop, length-append}
+use lib.Seq.{getD-take, getD-drop, length-take-le, take-append-seam, take-append-le, drop-append-le}
+use borrow.Author.Tests.{ltb-false, leb-true, eqb-true, eqb-false, not-false, lt-ltb, le-ltb, le-leb, eq-eqb, ne-eqb}
 use Rattle.base.specs.Choice.{pick}
 use Rattle.base.proofs.Choice.{pick-keeps, and-both}
-use Rattle.wire.specs.Wire.{field, byte, event, refuse, accept}
+use Rattle.wire.specs.Wire.{field, Item, byte, event, Parsed, refuse, accept}
 use Rattle.field.specs.Fields.{pairAt, quadAt, tagOf, lengthOf, payloadOf, lengthFits, headerCode, valuesFit, readField}
 
 -- THE HEAD, a law for each outcome in the order of the tests; tag, n and r are what the code has for the tag, the length and its test
@@ -97,6 +97,102 @@ module _ (fits : ℕ → Bool) (b : List ℕ) where
   pub read-event : headerCode b ≡ 0 → (tagOf b ≡ 1 → ⊥) → fits (getD (payloadOf b) 0 0) ≡ true → valuesFit (tagOf b) (payloadOf b) ≡ true → readField fits b ≡ accept (3 + lengthOf b) (event (getD (payloadOf b) 0 0) (field (tagOf b) (payloadOf b)) ∷ [])
   unfolding readField
   read-event e t f v = rw (eq-eqb (headerCode b) 0 e, ne-eqb (tagOf b) 1 t, f, v)
+
+  -- a head that is refused, by its number
+  pub read-code : (n : ℕ) → headerCode b ≡ n → 0 < n → readField fits b ≡ refuse n
+  read-code n e h = read-refused (λ z. omega (arith, e, z, h)) ∙ ap refuse e
+
+  -- an accepted field has the bytes of its header and its payload, and they are there
+  pub read-accepted : (n : ℕ) (is : List Item) → readField fits b ≡ accept n is → (3 ≤ n) × (n ≤ length b)
+  unfolding readField
+  read-accepted n is e = byHeader (eqb (headerCode b) 0) refl
+    where
+      accepts : Parsed → Bool
+      accepts (refuse k) = false
+      accepts (accept k js) = true
+
+      usedIn : Parsed → ℕ
+      usedIn (refuse k) = 0
+      usedIn (accept k js) = k
+
+      Used : Parsed → Type 0
+      Used p = accepts p ≡ true → usedIn p ≡ 3 + lengthOf b
+
+      no : (p : Parsed) → accepts p ≡ false → Used p
+      no p n d = absurd (false≢true (sym n ∙ d))
+
+      all : List Item → Parsed
+      all js = accept (3 + lengthOf b) js
+
+      -- whatever the tests come to
+      judged : (t₁ t₂ t₃ t₄ : Bool) (k : ℕ) (xs ys : List Item) → Used (pick t₁ (refuse k) (pick t₂ (all xs) (pick t₃ (refuse 6) (pick t₄ (refuse 7) (all ys)))))
+      judged true t₂ t₃ t₄ k xs ys = no (refuse k) refl
+      judged false true t₃ t₄ k xs ys = λ d. refl
+      judged false false true t₄ k xs ys = no (refuse 6) refl
+      judged false false false true k xs ys = no (refuse 7) refl
+      judged false false false false k xs ys = λ d. refl
+
+      used : Used (readField fits b)
+      used = judged (not (eqb (headerCode b) 0)) (eqb (tagOf b) 1) (not (fits (getD (payloadOf b) 0 0))) (not (valuesFit (tagOf b) (payloadOf b))) (headerCode b) (map byte (payloadOf b)) (event (getD (payloadOf b) 0 0) (field (tagOf b) (payloadOf b)) ∷ [])
+
+      byHeader : (t : Bool) → eqb (headerCode b) 0 ≡ t → (3 ≤ n) × (n ≤ length b)
+      byHeader true h =
+          let u : n ≡ 3 + lengthOf b = ap usedIn (sym e) ∙ used (ap accepts e) in
+          let good = eqb-true (headerCode b) 0 h in
+          (omega (arith, u), omega (arith, u, header-good b good .0))
+      byHeader false h = absurd (false≢true (ap accepts (sym (read-refused (eqb-false (headerCode b) 0 h)) ∙ e)))
+
+-- MORE BYTES behind a field change nothing of what is said of it, unless it is cut short
+module _ (b x : List ℕ) (long : 3 ≤ length b) where
+  abbrev more : List ℕ
+  more = b ++ x
+
+  longer : length more ≡ length b + length x
+  longer = length-append b x
+
+  byte-longer : (i : ℕ) → i < 3 → getD more i 0 ≡ getD b i 0
+  byte-longer i h =
+      let e : getD (take (length b) more) i 0 ≡ getD more i 0 = getD-take (length b) more i 0 (omega (arith, h, long)) in
+      sym e ∙ ap (λ (l : List ℕ). getD l i 0) (take-append-seam b x)
+
+  tag-longer : tagOf more ≡ tagOf b
+  tag-longer = byte-longer 0 (omega arith)
+
+  length-longer : lengthOf more ≡ lengthOf b
+  length-longer = rw (byte-longer 1 (omega arith), byte-longer 2 (omega arith)) refl
+
+  header-longer : (headerCode b ≡ 5 → ⊥) → headerCode more ≡ headerCode b
+  unfolding headerCode
+  header-longer five =
+      rw (le-ltb (length more) 3 (omega (arith, longer, long)), le-ltb (length b) 3 long, tag-longer, length-longer)
+      (byTests (not (leb 1 (tagOf b) && leb (tagOf b) 5)) (not (lengthFits (tagOf b) (lengthOf b))) (ltb (length b) (3 + lengthOf b)) refl (rw (le-ltb (length b) 3 long) at five))
+    where
+      code : Bool → Bool → Bool → ℕ
+      code tag size short = pick tag 3 (pick size 4 (pick short 5 0))
+
+      byTests : (tag size short : Bool) → ltb (length b) (3 + lengthOf b) ≡ short → (code tag size short ≡ 5 → ⊥) → code tag size (ltb (length more) (3 + lengthOf b)) ≡ code tag size short
+      byTests true size short e n = refl
+      byTests false true short e n = refl
+      byTests false false true e n = absurd (n refl)
+      byTests false false false e n = rw (le-ltb (length more) (3 + lengthOf b) (omega (arith, longer, ltb-false (length b) (3 + lengthOf b) e))) refl
+
+  module _ (fits : ℕ → Bool) where
+    good-longer : headerCode b ≡ 0 → headerCode more ≡ 0 → readField fits more ≡ readField fits b
+    unfolding readField
+    good-longer good same =
+        let enough = header-good b good .0 in
+        let payload : payloadOf more ≡ payloadOf b =
+        rw (length-longer, drop-append-le 3 b x long) (take-append-le (lengthOf b) (drop 3 b) x (rw length-drop (omega (arith, enough)))) in
+        rw (same, good, payload, tag-longer, length-longer) refl
+
+    pub read-longer : (headerCode b ≡ 5 → ⊥) → readField fits more ≡ readField fits b
+    read-longer five = byHeader (eqb (headerCode b) 0) refl
+      where
+        byHeader : (t : Bool) → eqb (headerCode b) 0 ≡ t → readField fits more ≡ readField fits b
+        byHeader true e = let good = eqb-true (headerCode b) 0 e in good-longer good (header-longer five ∙ good)
+        byHeader false e =
+            let bad = eqb-false (headerCode b) 0 e in
+            read-refused fits more (λ z. bad (sym (header-longer five) ∙ z)) ∙ ap refuse (header-longer five) ∙ sym (read-refused fits b bad)
 
 -- THE BOUNDS of numbers made of bytes
 module _ (s : List ℕ) (i : ℕ) (bytes : (j : ℕ) → getD s j 0 < 256) where

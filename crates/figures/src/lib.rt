@@ -64,14 +64,6 @@ pub fn first_at(s: &[u8], x: u8) -> usize
     i
 }
 
-// What stands before index p of s.
-pub fn part_before(s: &[u8], p: usize) -> &[u8]
-    requires { ⌜ p ≤ length (now s) ⌝ }
-    ensures { λ r. ⌜ now r ≡ take p (now (s .entry)) ⌝ }
-{
-    &s[..p]
-}
-
 // What stands after index p of s: nothing where p is past the end.
 pub fn part_after(s: &[u8], p: usize) -> &[u8]
     ensures { λ r. ⌜ now r ≡ drop (p + 1) (now (s .entry)) ⌝ }
@@ -120,7 +112,7 @@ pub fn read_number(s: &[u8], k: usize) -> Number
         return no_number();
     }
     let p = first_at(s, b'.');
-    let w = part_before(s, p);
+    let w = base::part_to(s, p);
     let f = part_after(s, p);
     if !all_digits(w) {
         return no_number();

@@ -1,5 +1,5 @@
 -- A fitting list as a whole, taken or refused.
-use Prim.Native.Nat.{ℕ}
+use Prim.Native.Nat.{ℕ, _≤_}
 use mathlib.Core.Path.{_≡_, refl, sym, subst, _∙_}
 use mathlib.Core.List.{List}
 use mathlib.Core.Bool.{Bool, true, false, true≢false, _&&_}
@@ -9,6 +9,7 @@ use borrow.Author.Tests.{eqb-true}
 use Rattle.base.proofs.Choice.{and-both}
 use Rattle.fitting.specs.Fitting.{allAllowed, goodList, Made}
 use Rattle.slots.specs.declared.Rack.{Rack}
+use Rattle.rack.specs.declared.Fitted.{Fitted}
 use Rattle.rack.specs.Fit.{FitDoes}
 
 module _ (l : List ℕ) (g : Bool) (e : g ≡ allAllowed l) (q : Rack) where
@@ -22,3 +23,11 @@ module _ (l : List ℕ) (g : Bool) (e : g ≡ allAllowed l) (q : Rack) where
   bad-fit t d =
       let bad : goodList l ≡ false = rw (← e) t in
       record { refuses = λ f. (refl, d); makes = λ h. absurd (true≢false (sym h ∙ bad)) }
+
+-- taken or refused, the line of the rack is short
+pub fitted-small : (l : List ℕ) (f : Fitted) → FitDoes l f → f .rack .line .count ≤ 64
+fitted-small l f d = byTest (goodList l) refl
+  where
+    byTest : (t : Bool) → goodList l ≡ t → f .rack .line .count ≤ 64
+    byTest true e = d .makes e .1 .small
+    byTest false e = d .refuses e .1 .small

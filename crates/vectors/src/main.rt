@@ -5,7 +5,7 @@ use libc::STDOUT_FILENO;
 fn line(buf: &mut [u8], n: usize) {
     let p = base::put_byte(buf, n, b'\n');
     if p <= buf.len() {
-        io::write_all(STDOUT_FILENO, figures::part_before(buf, p));
+        io::write_all(STDOUT_FILENO, base::part_to(buf, p));
     }
 }
 

@@ -11,7 +11,7 @@ use Rattle.command.proofs.asks_of.Lts as lts
 use Rattle.command.proofs.asks_of_word.Reads as asks-of-word-reads
 use Rattle.figures.proofs.first_at.Reads as first-at-reads
 use Rattle.figures.proofs.part_after.Reads as part-after-reads
-use Rattle.figures.proofs.part_before.Reads as part-before-reads
+use Rattle.base.proofs.part_to.Reads as part-to-reads
 use Rattle.words.proofs.word_number.Reads as word-number-reads
 
 returns : tie.Need-returns
@@ -21,8 +21,8 @@ returns c = rw (eq-eqb _ _ (c .if1 .taken))
 first-at-requires : tie.Need-first-at-requires
 first-at-requires c κs = search needs
 
-part-before-requires : tie.Need-part-before-requires
-part-before-requires c κs = search needs
+part-to-requires : tie.Need-part-to-requires
+part-to-requires c κs = search needs
 
 word-number-requires : tie.Need-word-number-requires
 word-number-requires c κs = search needs
@@ -35,7 +35,7 @@ asks-of-word-requires c κs = search needs
 
 returns-2 : tie.Need-returns-2
 unfolding asksOf
-returns-2 c = rw (ne-eqb _ _ (c .before .before .before .before .before .if1 .left)) (c .asks-of-word .ensures ∙ by-word _ _ _ _ _ (λ i. c .before .before .before .before .before .before .shared-slice-known .given i .fits) (c .before .before .before .before .first-at .ensures .0) (c .before .before .before .part-before .ensures) (c .before .before .word-number .ensures) (c .before .part-after .ensures))
+returns-2 c = rw (ne-eqb _ _ (c .before .before .before .before .before .if1 .left)) (c .asks-of-word .ensures ∙ by-word _ _ _ _ _ (λ i. c .before .before .before .before .before .before .shared-slice-known .given i .fits) (c .before .before .before .before .first-at .ensures .0) (c .before .before .before .part-to .ensures) (c .before .before .word-number .ensures) (c .before .part-after .ensures))
 
 pub asks-of-spec : {M : Type 1} → statement M
 asks-of-spec =
@@ -43,7 +43,7 @@ asks-of-spec =
     (tie.spec
     returns
     first-at-requires
-    part-before-requires
+    part-to-requires
     word-number-requires
     part-after-requires
     asks-of-word-requires

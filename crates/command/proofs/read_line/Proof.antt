@@ -9,7 +9,7 @@ use Rattle.command.proofs.read_line.Lts as lts
 use Rattle.command.proofs.asks_of.Reads as asks-of-reads
 use Rattle.command.proofs.heard_as.Reads as heard-as-reads
 use Rattle.command.proofs.right_sum.Reads as right-sum-reads
-use Rattle.figures.proofs.part_before.Reads as part-before-reads
+use Rattle.base.proofs.part_to.Reads as part-to-reads
 
 heard-as-requires : tie.Need-heard-as-requires
 heard-as-requires c κs = search needs
@@ -44,8 +44,8 @@ returns-3 c = rw (c .before .before .before .before .before .if1 .left, le-leb 3
 right-sum-requires : tie.Need-right-sum-requires
 right-sum-requires c κs = search needs
 
-part-before-requires : tie.Need-part-before-requires
-part-before-requires c κs = search needs
+part-to-requires : tie.Need-part-to-requires
+part-to-requires c κs = search needs
 
 asks-of-requires-3 : tie.Need-asks-of-requires-3
 asks-of-requires-3 c κs = search needs
@@ -58,7 +58,7 @@ heard-as-requires-5 c κs = search needs
 
 returns-4 : tie.Need-returns-4
 unfolding heardOf
-returns-4 c = rw (c .before .before .before .before .before .before .before .before .if1 .left, le-leb 3 _ (c .before .before .before .before .before .before .before .if2 .left), eq-eqb _ 36 (c .before .before .before .before .before .if3 .left), ← c .before .before .before .before .right-sum .ensures, c .before .before .before .if4 .taken, ← c .before .before .part-before .ensures, ← c .before .asks-of3 .ensures) (c .heard-as4 .ensures)
+returns-4 c = rw (c .before .before .before .before .before .before .before .before .if1 .left, le-leb 3 _ (c .before .before .before .before .before .before .before .if2 .left), eq-eqb _ 36 (c .before .before .before .before .before .if3 .left), ← c .before .before .before .before .right-sum .ensures, c .before .before .before .if4 .taken, ← c .before .before .part-to .ensures, ← c .before .asks-of3 .ensures) (c .heard-as4 .ensures)
 
 returns-5 : tie.Need-returns-5
 unfolding heardOf
@@ -78,7 +78,7 @@ read-line-spec =
     heard-as-requires-3
     returns-3
     right-sum-requires
-    part-before-requires
+    part-to-requires
     asks-of-requires-3
     heard-as-requires-4
     heard-as-requires-5

@@ -7,7 +7,7 @@ use Rattle.command.proofs.right_sum.Reads as reads
 use Rattle.command.proofs.right_sum.Lts as lts
 use Rattle.base.proofs.wide.Reads as wide-reads
 use Rattle.figures.proofs.part_after.Reads as part-after-reads
-use Rattle.figures.proofs.part_before.Reads as part-before-reads
+use Rattle.base.proofs.part_to.Reads as part-to-reads
 use Rattle.hex.proofs.read_hex.Reads as read-hex-reads
 use Rattle.hex.proofs.sum.Reads as sum-reads
 
@@ -20,11 +20,11 @@ part-after-requires c κs = search needs
 read-hex-requires : tie.Need-read-hex-requires
 read-hex-requires c κs = search needs
 
-sub-part-before : tie.Need-sub-part-before
-sub-part-before c = search needs
+sub-part-to : tie.Need-sub-part-to
+sub-part-to c = search needs
 
-part-before-requires : tie.Need-part-before-requires
-part-before-requires c κs = search needs
+part-to-requires : tie.Need-part-to-requires
+part-to-requires c κs = search needs
 
 sum-requires : tie.Need-sum-requires
 sum-requires c κs = search needs
@@ -33,7 +33,7 @@ wide-requires : tie.Need-wide-requires
 wide-requires c κs = search needs
 
 returns : tie.Need-returns
-returns c = right-sum _ _ _ _ _ _ (c .before .before .before .before .before .before .before .before .pre) (c .before .before .before .before .before .before .part-after .ensures) (c .before .before .before .before .part-before .ensures) (c .before .before .before .before .before .read-hex .ensures) (c .before .before .before .sum .ensures) (c .before .before .wide .ensures .0)
+returns c = right-sum _ _ _ _ _ _ (c .before .before .before .before .before .before .before .before .pre) (c .before .before .before .before .before .before .part-after .ensures) (c .before .before .before .before .part-to .ensures) (c .before .before .before .before .before .read-hex .ensures) (c .before .before .before .sum .ensures) (c .before .before .wide .ensures .0)
 
 pub right-sum-spec : {M : Type 1} → statement M
 right-sum-spec =
@@ -42,8 +42,8 @@ right-sum-spec =
     sub-part-after
     part-after-requires
     read-hex-requires
-    sub-part-before
-    part-before-requires
+    sub-part-to
+    part-to-requires
     sum-requires
     wide-requires
     returns)

@@ -1,4 +1,4 @@
--- `end_lines` meets its contract: after i turns the first i bytes are as they are printed.
+-- `end_lines` meets its contract: after i steps the first i bytes are as they are printed.
 use borrow.Author.Needs.{needs}
 use native.Mathlib.Omega.{arith}
 use mathlib.Core.Path.{_≡_, refl, sym, ap, _∙_}
@@ -11,7 +11,7 @@ use Rattle.controller.proofs.end_lines.Statement.{statement}
 use Rattle.controller.proofs.end_lines.Tie as tie
 use Rattle.controller.proofs.end_lines.Reads as reads
 use Rattle.controller.proofs.end_lines.Lts as lts
-use Rattle.controller.proofs.least.Reads as least-reads
+use Rattle.base.proofs.least.Reads as least-reads
 use Rattle.controller.proofs.printed_byte.Reads as printed-byte-reads
 
 abbrev Inv-loop : tie.InvT-loop
@@ -25,7 +25,7 @@ least-requires : tie.Need-least-requires Inv-loop μ-loop
 least-requires c κs = search needs
 
 loop-holds : tie.Need-loop-holds Inv-loop μ-loop
-loop-holds c = (search needs, refl, c .least .ensures .0, c .least .ensures .1, refl)
+loop-holds c = (search needs, refl, omega (arith, c .least .ensures), λ h. omega (arith, h, c .least .ensures), refl)
 
 slice-read-printed-byte : tie.Need-slice-read-printed-byte Inv-loop μ-loop
 slice-read-printed-byte c = search needs

@@ -1,17 +1,18 @@
--- `keep_rest` is safe and ends: the bytes go to places that are not above their own.
+-- `keep_rest` meets its contract: after i steps i bytes are moved, each to a place that is not above its own.
 use borrow.Author.Needs.{needs}
 use native.Mathlib.Omega.{arith}
-use mathlib.Core.Path.{_≡_, refl}
-use Prim.Native.Nat.{_≤_, _-_}
-use lib.ListN.{length}
+use mathlib.Core.Path.{_≡_, refl, _∙_}
+use Prim.Native.Nat.{_≤_, _+_, _-_, min}
+use lib.ListN.{length, length-set}
+use Rattle.controller.proofs.Kept.{Moved, moved-none, moved-more, moved-all}
 use Rattle.controller.proofs.keep_rest.Statement.{statement}
 use Rattle.controller.proofs.keep_rest.Tie as tie
 use Rattle.controller.proofs.keep_rest.Reads as reads
 use Rattle.controller.proofs.keep_rest.Lts as lts
-use Rattle.controller.proofs.least.Reads as least-reads
+use Rattle.base.proofs.least.Reads as least-reads
 
 abbrev Inv-loop : tie.InvT-loop
-Inv-loop room₀ used n end from₀ i₀ room from i = (i ≤ from) × (length room ≡ length room₀) × (end ≤ length room₀)
+Inv-loop room₀ used n end from₀ i₀ room from i = (from ≡ used + i) × (length room ≡ length room₀) × (end ≡ min n (length room₀)) × Moved room₀ used n i room × (i ≤ length room₀)
 
 abbrev μ-loop : tie.MeasureT-loop
 μ-loop room₀ used n end from₀ i₀ room from i = end - from
@@ -20,7 +21,7 @@ least-requires : tie.Need-least-requires Inv-loop μ-loop
 least-requires c κs = search needs
 
 loop-holds : tie.Need-loop-holds Inv-loop μ-loop
-loop-holds c = search needs
+loop-holds c = (omega arith, refl, c .least .ensures, moved-none _ _ _, omega arith)
 
 slice-read-room : tie.Need-slice-read-room Inv-loop μ-loop
 slice-read-room c = search needs
@@ -38,13 +39,25 @@ loop-less : tie.Need-loop-less Inv-loop μ-loop
 loop-less c = search needs
 
 loop-again : tie.Need-loop-again Inv-loop μ-loop
-loop-again c = search needs
+loop-again c =
+    let l = c .before .before in
+    let z = c .before .before .before .before .before .args in
+    let at = l .loop .inv .0 in (
+      omega (arith, at),
+      length-set (l .loop .room) _ _ ∙ l .loop .inv .1,
+      l .loop .inv .2,
+      moved-more (z .room .now) (l .loop .room) (z .used) (z .n) (l .loop .i) (l .loop .inv .3) (l .loop .from) 0 at (omega (arith, l .loop .inv .2, c .before .loop-test .taken)) (l .loop .inv .1),
+      omega (arith, at, l .loop .inv .2, c .before .loop-test .taken),
+    )
 
 same-length : tie.Need-same-length Inv-loop μ-loop
 same-length c = search needs
 
 returns : tie.Need-returns Inv-loop μ-loop
-returns c = search needs
+returns c =
+    let l = c .before in
+    let z = c .before .before .before .before .args in
+    (moved-all (z .room .now) (l .loop .room) (z .used) (z .n) (l .loop .i) (l .loop .inv .3) (omega (arith, l .loop .inv .0, l .loop .inv .2, c .loop-test .left)), omega (arith, l .loop .inv .1, l .loop .inv .4))
 
 pub keep-rest-spec : {M : Type 1} → statement M
 keep-rest-spec =

@@ -10,10 +10,10 @@ use Rattle.figures.proofs.read_number.Statement.{statement}
 use Rattle.figures.proofs.read_number.Tie as tie
 
 -- the parts, and what is known of them further on
-cut : (q : tie.After-part-after) → Parted (q .before .before .before .before .before .args .s .now) (q .before .part-before .result .now) (q .part-after .result .now)
-cut q = parted (q .before .before .first-at .ensures .0) (q .before .part-before .ensures) (q .part-after .ensures) (q .before .before .before .if1 .left)
+cut : (q : tie.After-part-after) → Parted (q .before .before .before .before .before .args .s .now) (q .before .part-to .result .now) (q .part-after .result .now)
+cut q = parted (q .before .before .first-at .ensures .0) (q .before .part-to .ensures) (q .part-after .ensures) (q .before .before .before .if1 .left)
 
-whole-good : (i : tie.Else2) → allDigits (i .before .before .before .part-before .result .now) ≡ true
+whole-good : (i : tie.Else2) → allDigits (i .before .before .before .part-to .result .now) ≡ true
 whole-good i = sym (i .before .all-digits .ensures) ∙ not-false _ (i .if2 .left)
 
 fraction-good : (i : tie.Else3) → allDigits (i .before .before .before .before .part-after .result .now) ≡ true

@@ -1,0 +1,3 @@
+pub mod Works
+pub mod Turns
+pub mod Cuts
