@@ -16,7 +16,7 @@ use Rattle.slots.specs.declared.Rack.{Rack}
 use Rattle.slots.specs.View.{viewOf}
 use Rattle.turn.specs.declared.Worked.{Worked}
 use Rattle.turn.specs.Cuts.{Waits, Final, Reads, nothing, read}
-use Rattle.turn.proofs.Works.{no-bytes, codeBy}
+use Rattle.turn.proofs.Works.{waiting-short}
 use Rattle.turn.proofs.Cuts.{so-far}
 use Rattle.controller.specs.Input.{AllWorked, InputDoes}
 
@@ -44,6 +44,12 @@ waits-is n t = byTest (eqb n 2) refl t
 
 final-is : (n : ℕ) → (eqb n 2 || eqb n 5) ≡ false → Final n
 final-is n f = let both = or-false (eqb n 2) (eqb n 5) f in (eqb-false n 2 (both .0), eqb-false n 5 (both .1))
+
+-- there is always room for a read: what waits is short
+pub room-left : (v q : wire.Rack Supply) (room : List ℕ) (kept code left : ℕ) → At v q (take kept room) code true left → kept ≤ length room → length room ≡ 65536 → kept < length room
+room-left v q room kept code left g low long =
+    let f = so-far v (g .count) (g .bytes) (g .last) q (take kept room) (g .said) code (g .reads) in
+    omega (arith, long, length-take-le kept room low, waiting-short q (take kept room) code (f .refuses) (g .waits refl))
 
 -- a read more: s are the bytes that are there after it, those that were kept before it first
 module _ (v : wire.Rack Supply) (rack : Rack) (kept : List ℕ) (code left : ℕ) (g : At v (viewOf rack) kept code true left) (some : 0 < left) where

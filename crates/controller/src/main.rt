@@ -3,7 +3,7 @@
 ghost use mathlib.Core.Path.{_≡_};
 ghost use mathlib.Core.Bool.{_||_};
 ghost use lib.Dec.{eqb};
-ghost use Prim.Native.Nat.{_≤_};
+ghost use Prim.Native.Nat.{_≤_, _<_};
 ghost use lib.ListN.{length, take, drop};
 ghost use Rattle.base.specs.Lists.{eachTo};
 ghost use Rattle.controller.specs.Printed.{printed};
@@ -79,18 +79,14 @@ fn take_fields(r: Rack, s: &[u8], reply: &mut [u8], out: &mut [u8]) -> Worked
     w
 }
 
-// Reads what is there behind the bytes that are kept; their number stays where no byte comes. There is always room: a field that waits
-// for its other bytes has 18 at most.
+// Reads what is there behind the bytes that are kept; their number stays where no byte comes.
 fn take_block(room: &mut [u8], kept: usize) -> usize
-    ensures { λ n. ⌜ (take kept (now (room .exit)) ≡ take kept (now (room .entry))) × (kept ≤ n) × (kept ≤ length (now (room .exit)) → n ≤ length (now (room .exit))) ⌝ }
+    requires { ⌜ kept < length (now room) ⌝ }
+    ensures { λ n. ⌜ (take kept (now (room .exit)) ≡ take kept (now (room .entry))) × (kept ≤ n) × (n ≤ length (now (room .exit))) ⌝ }
 {
-    if kept < room.len() {
-        let free = &mut room[kept..];
-        let got = libc::read(STDIN_FILENO, free);
-        kept + io::count(got, free)
-    } else {
-        kept
-    }
+    let free = &mut room[kept..];
+    let got = libc::read(STDIN_FILENO, free);
+    kept + io::count(got, free)
 }
 
 // Of the first n bytes, moves those from an index on to the start, and tells how many they are.
@@ -110,7 +106,7 @@ fn keep_rest(room: &mut [u8], used: usize, n: usize) -> usize
 
 // Works the input to its end, or to the first refusal, and tells its number, or 0.
 fn take_input(r: Rack, room: &mut [u8], reply: &mut [u8], out: &mut [u8]) -> u8
-    requires { ⌜ (r .line .count ≤ 64) × (length (now reply) ≡ 4096) × (length (now out) ≡ 65536) ⌝ }
+    requires { ⌜ (r .line .count ≤ 64) × (length (now reply) ≡ 4096) × (length (now out) ≡ 65536) × (length (now room) ≡ 65536) ⌝ }
     ensures { λ n. ⌜ InputDoes r n ⌝ }
 {
     let mut rack = r;

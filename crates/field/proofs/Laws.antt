@@ -1,13 +1,14 @@
 -- What a field's bytes come to: a law for each outcome, what a good head says of the payload, and the bounds of its numbers.
 use Prim.Native.Nat.{ℕ, suc, _+_, _^_, _≤_, _<_}
 use mathlib.Core.Path.{_≡_, refl, sym, ap, _∙_}
+use mathlib.Core.Logic.{_⊎_, inl, inr}
 use mathlib.Core.List.{List, [], _∷_, _++_, map}
 use mathlib.Core.Bool.{Bool, true, false, not, _&&_, false≢true}
 use native.Mathlib.Omega.{arith}
 use lib.Dec.{leb, ltb, eqb}
 use lib.ListN.{length, getD, take, drop, length-drop, length-append}
 use lib.Seq.{getD-take, getD-drop, length-take-le, take-append-seam, take-append-le, drop-append-le}
-use borrow.Author.Tests.{ltb-false, leb-true, eqb-true, eqb-false, not-false, lt-ltb, le-ltb, le-leb, eq-eqb, ne-eqb}
+use borrow.Author.Tests.{ltb-true, ltb-false, leb-true, eqb-true, eqb-false, not-false, lt-ltb, le-ltb, le-leb, eq-eqb, ne-eqb}
 use Rattle.base.specs.Choice.{pick}
 use Rattle.base.proofs.Choice.{pick-keeps, and-both}
 use Rattle.wire.specs.Wire.{field, Item, byte, event, Parsed, refuse, accept}
@@ -49,6 +50,14 @@ other-length t n h =
     rw (ne-eqb t 1 h)
     (pick-keeps (λ (x : Bool). x ≡ true → 2 ≤ n) (eqb t 3) (eqb n 6) (pick (eqb t 5) (eqb n 5) (eqb n 2)) (λ e. omega (arith, eqb-true n 6 e))
     (pick-keeps (λ (x : Bool). x ≡ true → 2 ≤ n) (eqb t 5) (eqb n 5) (eqb n 2) (λ e. omega (arith, eqb-true n 5 e)) (λ e. omega (arith, eqb-true n 2 e))))
+
+-- and none has more than 16
+length-most : (t n : ℕ) → lengthFits t n ≡ true → n ≤ 16
+unfolding lengthFits
+length-most t n =
+    pick-keeps (λ (x : Bool). x ≡ true → n ≤ 16) (eqb t 1) (leb 1 n && leb n 16) (pick (eqb t 3) (eqb n 6) (pick (eqb t 5) (eqb n 5) (eqb n 2))) (λ e. leb-true n 16 (and-both (leb 1 n) (leb n 16) e .1))
+    (pick-keeps (λ (x : Bool). x ≡ true → n ≤ 16) (eqb t 3) (eqb n 6) (pick (eqb t 5) (eqb n 5) (eqb n 2)) (λ e. omega (arith, eqb-true n 6 e))
+    (pick-keeps (λ (x : Bool). x ≡ true → n ≤ 16) (eqb t 5) (eqb n 5) (eqb n 2) (λ e. omega (arith, eqb-true n 5 e)) (λ e. omega (arith, eqb-true n 2 e))))
 
 -- a chain of refusals is passed where each is; a refusal is never 0
 passed : (t : Bool) (x k : ℕ) → pick t (suc x) k ≡ 0 → (t ≡ false) × (k ≡ 0)
@@ -98,13 +107,21 @@ module _ (fits : ℕ → Bool) (b : List ℕ) where
   unfolding readField
   read-event e t f v = rw (eq-eqb (headerCode b) 0 e, ne-eqb (tagOf b) 1 t, f, v)
 
+  -- what holds of each outcome holds of the field
+  pub outcomes : (P : Parsed → Type 0) → P (refuse (headerCode b)) → P (refuse 6) → P (refuse 7) → ((is : List Item) → P (accept (3 + lengthOf b) is)) → P (readField fits b)
+  unfolding readField
+  outcomes P head six seven good =
+      pick-keeps P (not (eqb (headerCode b) 0)) (refuse (headerCode b)) _ head
+      (pick-keeps P (eqb (tagOf b) 1) _ _ (good (map byte (payloadOf b)))
+      (pick-keeps P (not (fits (getD (payloadOf b) 0 0))) (refuse 6) _ six
+      (pick-keeps P (not (valuesFit (tagOf b) (payloadOf b))) (refuse 7) _ seven (good (event (getD (payloadOf b) 0 0) (field (tagOf b) (payloadOf b)) ∷ [])))))
+
   -- a head that is refused, by its number
   pub read-code : (n : ℕ) → headerCode b ≡ n → 0 < n → readField fits b ≡ refuse n
   read-code n e h = read-refused (λ z. omega (arith, e, z, h)) ∙ ap refuse e
 
   -- an accepted field has the bytes of its header and its payload, and they are there
   pub read-accepted : (n : ℕ) (is : List Item) → readField fits b ≡ accept n is → (3 ≤ n) × (n ≤ length b)
-  unfolding readField
   read-accepted n is e = byHeader (eqb (headerCode b) 0) refl
     where
       accepts : Parsed → Bool
@@ -121,19 +138,8 @@ module _ (fits : ℕ → Bool) (b : List ℕ) where
       no : (p : Parsed) → accepts p ≡ false → Used p
       no p n d = absurd (false≢true (sym n ∙ d))
 
-      all : List Item → Parsed
-      all js = accept (3 + lengthOf b) js
-
-      -- whatever the tests come to
-      judged : (t₁ t₂ t₃ t₄ : Bool) (k : ℕ) (xs ys : List Item) → Used (pick t₁ (refuse k) (pick t₂ (all xs) (pick t₃ (refuse 6) (pick t₄ (refuse 7) (all ys)))))
-      judged true t₂ t₃ t₄ k xs ys = no (refuse k) refl
-      judged false true t₃ t₄ k xs ys = λ d. refl
-      judged false false true t₄ k xs ys = no (refuse 6) refl
-      judged false false false true k xs ys = no (refuse 7) refl
-      judged false false false false k xs ys = λ d. refl
-
       used : Used (readField fits b)
-      used = judged (not (eqb (headerCode b) 0)) (eqb (tagOf b) 1) (not (fits (getD (payloadOf b) 0 0))) (not (valuesFit (tagOf b) (payloadOf b))) (headerCode b) (map byte (payloadOf b)) (event (getD (payloadOf b) 0 0) (field (tagOf b) (payloadOf b)) ∷ [])
+      used = outcomes Used (no (refuse (headerCode b)) refl) (no (refuse 6) refl) (no (refuse 7) refl) (λ is d. refl)
 
       byHeader : (t : Bool) → eqb (headerCode b) 0 ≡ t → (3 ≤ n) × (n ≤ length b)
       byHeader true h =
@@ -141,6 +147,41 @@ module _ (fits : ℕ → Bool) (b : List ℕ) where
           let good = eqb-true (headerCode b) 0 h in
           (omega (arith, u), omega (arith, u, header-good b good .0))
       byHeader false h = absurd (false≢true (ap accepts (sym (read-refused (eqb-false (headerCode b) 0 h)) ∙ e)))
+
+-- A FIELD THAT LACKS BYTES has 18 at most
+abbrev pub codeIn : Parsed → ℕ
+codeIn (refuse n) = n
+codeIn (accept n is) = 0
+
+abbrev Complete : ℕ → Type 0
+Complete n = (n ≡ 2 → ⊥) × (n ≡ 5 → ⊥)
+
+module _ (b : List ℕ) (long : 18 < length b) where
+  header-complete : Complete (headerCode b)
+  unfolding headerCode
+  header-complete = rw (le-ltb (length b) 3 (omega (arith, long))) (bySize (lengthFits (tagOf b) (lengthOf b)) refl (not (leb 1 (tagOf b) && leb (tagOf b) 5)))
+    where
+      rest : Bool → ℕ
+      rest fit = pick (not fit) 4 (pick (ltb (length b) (3 + lengthOf b)) 5 0)
+
+      bySize : (fit : Bool) → lengthFits (tagOf b) (lengthOf b) ≡ fit → (tag : Bool) → Complete (pick tag 3 (rest fit))
+      bySize fit e true = (λ h. omega (arith, h), λ h. omega (arith, h))
+      bySize false e false = (λ h. omega (arith, h), λ h. omega (arith, h))
+      bySize true e false =
+          rw (le-ltb (length b) (3 + lengthOf b) (omega (arith, long, length-most (tagOf b) (lengthOf b) e)))
+          (λ h. omega (arith, h), λ h. omega (arith, h))
+
+  complete : (fits : ℕ → Bool) → Complete (codeIn (readField fits b))
+  complete fits =
+      outcomes fits b (λ (p : Parsed). Complete (codeIn p)) header-complete (λ h. omega (arith, h), λ h. omega (arith, h)) (λ h. omega (arith, h), λ h. omega (arith, h)) (λ is. (λ h. omega (arith, h), λ h. omega (arith, h)))
+
+pub lacking-short : (fits : ℕ → Bool) (b : List ℕ) → (codeIn (readField fits b) ≡ 2) ⊎ (codeIn (readField fits b) ≡ 5) → length b ≤ 18
+lacking-short fits b lacks = byLength (ltb 18 (length b)) refl lacks
+  where
+    byLength : (t : Bool) → ltb 18 (length b) ≡ t → (codeIn (readField fits b) ≡ 2) ⊎ (codeIn (readField fits b) ≡ 5) → length b ≤ 18
+    byLength true e (inl h) = absurd (complete b (ltb-true 18 (length b) e) fits .0 h)
+    byLength true e (inr h) = absurd (complete b (ltb-true 18 (length b) e) fits .1 h)
+    byLength false e l = ltb-false 18 (length b) e
 
 -- MORE BYTES behind a field change nothing of what is said of it, unless it is cut short
 module _ (b x : List ℕ) (long : 3 ≤ length b) where

@@ -2,6 +2,7 @@
 use Prim.Native.Nat.{ℕ, _+_, _-_, _≤_, _<_}
 use mathlib.Core.Path.{_≡_, refl, sym, ap, subst, _∙_}
 use mathlib.Core.Bool.{Bool, true, false, true≢false, false≢true}
+use mathlib.Core.Logic.{_⊎_, inl, inr}
 use mathlib.Core.List.{List, [], _∷_, _++_, append-nil, append-assoc}
 use native.Mathlib.Omega.{arith}
 use native.Mathlib.Nat.{add-zero, add-assoc}
@@ -14,9 +15,10 @@ use Rattle.supply.specs.declared.Supply.{Supply}
 use Rattle.field.specs.Fields.{headerCode, readField}
 use borrow.Author.Tests.{ltb-true, ltb-false}
 use lib.Dec.{ltb}
-use Rattle.field.proofs.Laws.{read-accepted, read-longer, read-code, too-short}
+use Rattle.field.proofs.Laws.{read-accepted, read-longer, read-code, too-short, codeIn, lacking-short}
 use Rattle.plain.specs.Plain.{plainSupply}
 use Rattle.feed.specs.Feed.{fieldAt, Works, none, more}
+use Rattle.turn.specs.Cuts.{Waits}
 
 -- a call that is accepted uses bytes, and no more than there are
 abbrev pub usedBy : wire.Answer Supply → ℕ
@@ -69,6 +71,22 @@ module _ (v : wire.Rack Supply) (s x : List ℕ) where
     where
       code : (k : ℕ) → readField fits s ≡ refuse k → n ≡ k
       code k r = ap codeBy (sym e) ∙ ap (λ (p : Parsed). codeBy (wire.answerOf plainSupply v p)) r
+
+-- a field that waits for its other bytes has 18 at most
+pub waiting-short : (v : wire.Rack Supply) (s : List ℕ) (n : ℕ) → callOf plainSupply v (fieldAt s) ≡ refused n → Waits n → length s ≤ 18
+unfolding callOf parse
+waiting-short v s n e w = lacking-short (fitted (v .setup)) s (byCode w)
+  where
+    code : (p : Parsed) → wire.answerOf plainSupply v p ≡ refused n → codeIn p ≡ n
+    code (refuse k) d = ap codeBy d
+    code (accept k is) d = absurd (true≢false (ap isDone d))
+
+    is-code : codeIn (readField (fitted (v .setup)) s) ≡ n
+    is-code = code (readField (fitted (v .setup)) s) e
+
+    byCode : Waits n → (codeIn (readField (fitted (v .setup)) s) ≡ 2) ⊎ (codeIn (readField (fitted (v .setup)) s) ≡ 5)
+    byCode (inl two) = inl (is-code ∙ two)
+    byCode (inr five) = inr (is-code ∙ five)
 
 -- no byte is no field
 pub no-bytes : (v : wire.Rack Supply) → callOf plainSupply v (fieldAt []) ≡ refused 2

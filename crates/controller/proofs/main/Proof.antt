@@ -47,7 +47,7 @@ slice-aggregate-take-input-3 : tie.Need-slice-aggregate-take-input-3
 slice-aggregate-take-input-3 c = search needs
 
 take-input-requires : tie.Need-take-input-requires
-take-input-requires c κs = (fitted-small _ _ (c .before .before .before .before .before .before .before .fit .ensures), sym (c .before .before .before .before .buffer .ensures), sym (c .before .before .before .large-buffer2 .ensures))
+take-input-requires c κs = (fitted-small _ _ (c .before .before .before .before .before .before .before .fit .ensures), sym (c .before .before .before .before .buffer .ensures), sym (c .before .before .before .large-buffer2 .ensures), sym (c .before .before .before .before .before .large-buffer .ensures))
 
 say-refusal-requires : tie.Need-say-refusal-requires
 say-refusal-requires c κs = search needs

@@ -34,11 +34,8 @@ same-length c = search needs
 
 returns : tie.Need-returns
 returns c =
-    let z = c .before .before .before .before .before .before .before .before .before .before .before .args in
-    (take-put (z .kept) (length (z .room .now) - z .kept) (z .room .now) (c .before .before .before .before .before .before .read .last .1 .0) (omega arith), omega arith, λ h. search needs)
-
-returns-2 : tie.Need-returns-2
-returns-2 c = search needs
+    let z = c .before .before .before .before .before .before .before .before .before .before .args in
+    (take-put (z .kept) (length (z .room .now) - z .kept) (z .room .now) (c .before .before .before .before .before .before .read .last .1 .0) (omega arith), omega arith, search needs)
 
 pub take-block-spec : {M : Type 1} → statement M
 take-block-spec =
@@ -51,5 +48,4 @@ take-block-spec =
     count-requires
     add-result
     same-length
-    returns
-    returns-2)
+    returns)

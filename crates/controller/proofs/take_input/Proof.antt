@@ -5,7 +5,7 @@ use Prim.Native.Nat.{_≤_}
 use native.Mathlib.Omega.{arith}
 use lib.ListN.{length, take, length-take}
 use Rattle.slots.specs.View.{viewOf}
-use Rattle.controller.proofs.Pieces.{At, at-start, at-more, kept-first, by-either, ends-quietly, ends-refused}
+use Rattle.controller.proofs.Pieces.{At, at-start, at-more, room-left, kept-first, by-either, ends-quietly, ends-refused}
 use Rattle.controller.proofs.take_input.Statement.{statement}
 use Rattle.controller.proofs.take_input.Tie as tie
 use Rattle.controller.proofs.take_input.Reads as reads
@@ -29,7 +29,9 @@ loop-holds : tie.Need-loop-holds Inv-loop μ-loop
 loop-holds c = (refl, refl, refl, c .before .before .before .pre .0, omega arith, at-start _)
 
 take-block-requires : tie.Need-take-block-requires Inv-loop μ-loop
-take-block-requires c κs = search needs
+take-block-requires c κs =
+    let l = c .before .before .before .loop in
+    room-left _ (viewOf (l .rack)) (l .room) (l .kept) (l .code) (l .reads) (rw (c .before .if1 .taken) at (l .inv .5)) (l .inv .4) (l .inv .0 ∙ c .before .before .before .before .before .before .before .pre .3)
 
 part-to-requires : tie.Need-part-to-requires Inv-loop μ-loop
 part-to-requires c κs = search needs
