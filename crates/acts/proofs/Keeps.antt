@@ -1,7 +1,7 @@
 -- Margins and limits hold of the fresh supply and are kept by whatever a supply is asked; accepted settings are the admissible ones.
-use mathlib.Core.Path.{_≡_, refl, sym, _∙_}
+use mathlib.Core.Path.{_≡_, refl}
 use mathlib.Core.Bool.{Bool, true, false, not, _&&_, _||_}
-use Prim.Native.Nat.{ℕ, suc, _*_, _≤_}
+use Prim.Native.Nat.{ℕ, _*_}
 use native.Mathlib.Omega.{arith}
 use lib.Dec.{ltb, leb, eqb}
 use borrow.Author.Tests.{ltb-false, le-ltb, eqb-true}
@@ -18,15 +18,17 @@ use Rattle.supply.specs.declared.Order.{Order}
 use Rattle.supply.specs.declared.Order.the-variants.{Set, Ovm, Out, Fld, Ast, Rmt, Fena, Cls, Rst}
 use Rattle.supply.specs.declared.Act.{Act}
 use Rattle.supply.specs.declared.Act.the-variants.{Lines, Sample, Press, Turn, Obey, Ask, Nothing}
-use Rattle.supply.specs.With.{withFeve, withWant, withArmed, withMode, withLines, withFoldTrip, withOvpTrip, withCounts}
-use Rattle.supply.specs.State.{fresh, c05, e01, e02, e04, e06}
+use Rattle.supply.specs.With.{withFeve, withWant, withArmed, withMode, withFoldTrip, withOvpTrip, withCounts}
+use Rattle.supply.specs.State.{fresh}
 use Rattle.supply.specs.Flt.{onOf, linesClear, inLimit, settled}
 use Rattle.settings.specs.Settings.{withSetting, stepped}
-use Rattle.events.specs.Events.{anyRises, falls, acFallen, linesChanged, sampled, turnedOn, disarmed, pressed, turned}
-use Rattle.orders.specs.Orders.{above105, setCode, orderCode, remote, remoteBy, outDone, fldDone, reset, ordered}
+use Rattle.samples.specs.Samples.{sampled}
+use Rattle.events.specs.Events.{anyRises, falls, acFallen, linesChanged, turnedOn, disarmed, pressed, turned}
+use Rattle.codes.specs.Codes.{above105, setCode, orderCode}
+use Rattle.orders.specs.Orders.{remote, remoteBy, outDone, fldDone, reset, ordered}
 use Rattle.acts.specs.Acts.{codeOf, clearingQuery, clearingAct, cleared, acted, closed, performed}
-use Rattle.settings.specs.Lawful.{Within, Lawful, Admissible}
-use Rattle.orders.proofs.Accepted.{passed}
+use Rattle.settings.specs.Lawful.{Lawful, Admissible}
+use Rattle.codes.proofs.Accepted.{passed}
 use Rattle.settings.proofs.Knob.{stepped-nearest}
 
 pub fresh-lawful : (m : ℕ) → Lawful m (fresh m)

@@ -20,11 +20,14 @@ use Rattle.supply.specs.With.{withWant, withArmed, withMode, withCounts}
 use Rattle.supply.specs.State.{fresh}
 use Rattle.supply.specs.Flt.{onOf, linesClear, inLimit, settled}
 use Rattle.settings.specs.Settings.{withSetting, stepped}
-use Rattle.events.specs.Events.{falls, linesChanged, sampled, turnedOn, disarmed, pressed, turned}
-use Rattle.orders.specs.Orders.{setCode, orderCode, remote, remoteBy, outDone, fldDone, reset, ordered}
+use Rattle.samples.specs.Samples.{sampled}
+use Rattle.events.specs.Events.{falls, linesChanged, turnedOn, disarmed, pressed, turned}
+use Rattle.codes.specs.Codes.{orderCode}
+use Rattle.orders.specs.Orders.{remote, remoteBy, outDone, fldDone, reset, ordered}
 use Rattle.acts.specs.Acts.{codeOf, clearingQuery, clearingOrder, clearingAct, cleared, acted, closed, performed}
 use Rattle.acts.specs.Releases.{Trip, fold, ovp, isSet, isOvp, orderReleases, keyReleases, releases}
-use Rattle.events.proofs.Cases.{lines-law, sample-law, disarm-law}
+use Rattle.samples.proofs.Cases.{sample-law}
+use Rattle.events.proofs.Cases.{lines-law, disarm-law}
 use Rattle.supply.proofs.FltBits.{want-off-shut, fold-shut, ovp-shut}
 
 -- a trip that is set means that the output is off

@@ -12,8 +12,10 @@ use Rattle.supply.specs.declared.Act.{Act}
 use Rattle.supply.specs.declared.Act.the-variants.{Lines, Sample, Press, Turn, Obey, Ask, Nothing}
 use Rattle.supply.specs.With.{withFeve}
 use Rattle.supply.specs.Flt.{settled}
-use Rattle.events.specs.Events.{linesChanged, sampled, pressed, turned}
-use Rattle.orders.specs.Orders.{orderCode, ordered}
+use Rattle.samples.specs.Samples.{sampled}
+use Rattle.events.specs.Events.{linesChanged, pressed, turned}
+use Rattle.codes.specs.Codes.{orderCode}
+use Rattle.orders.specs.Orders.{ordered}
 
 -- 0, or the code of the refusal; only an order can be refused
 unfoldable pub codeOf : ℕ → Supply → Act → ℕ

@@ -11,7 +11,7 @@ use Rattle.supply.specs.declared.Act.{Act}
 use Rattle.supply.specs.declared.Act.the-variants.{Lines, Sample, Press, Turn, Obey, Ask, Nothing}
 use Rattle.supply.specs.Flt.{onOf, linesClear}
 use Rattle.events.specs.Events.{falls}
-use Rattle.orders.specs.Orders.{orderCode}
+use Rattle.codes.specs.Codes.{orderCode}
 
 pub data Trip : Type 0 where
   fold ovp : Trip

@@ -1,7 +1,6 @@
 // A case of the supply as a row of 38 numbers has it: the state before, an act, and what is expected of it. Makes the
 // state and the act of the numbers, and tells whether the supply does what the row expects. The program `trials` reads
 // the rows; tests/src/trial.rs tells what each number is.
-ghost use Prim.Native.Nat.{_<_};
 use supply::Act;
 use supply::Answer;
 use supply::Key;
@@ -14,15 +13,15 @@ use supply::Word;
 // How many numbers a row has, and where its parts begin. The model is the first number.
 pub const CELLS: usize = 38;
 
-const BEFORE: usize = 1;
+const BEFORE: u8 = 1;
 
-const ACT: usize = 16;
+const ACT: u8 = 16;
 
-const CODE: usize = 19;
+const CODE: u8 = 19;
 
-const AFTER: usize = 20;
+const AFTER: u8 = 20;
 
-const ANSWER: usize = 35;
+const ANSWER: u8 = 35;
 
 fn target_of(n: u64) -> Target {
     match n {
@@ -124,67 +123,61 @@ fn second_values(kind: u64) -> u64 {
     }
 }
 
+// A number of the row, counted from the cell where its part begins; 0 behind the last.
+fn cell(row: &[u64; CELLS], at: u8, k: u8) -> u64 {
+    let i = at as usize + k as usize;
+    if i < CELLS { row[i] } else { 0 }
+}
+
 // The supply whose state begins at a cell.
-fn supply_at(row: &[u64; CELLS], at: usize) -> Supply
-    requires { ⌜ at < 21 ⌝ }
-{
+fn supply_at(row: &[u64; CELLS], at: u8) -> Supply {
     Supply {
-        pv: figure_of(row[at]),
-        pc: figure_of(row[at + 1]),
-        ovp: figure_of(row[at + 2]),
-        uvl: figure_of(row[at + 3]),
-        want: row[at + 4] == 1,
-        armed: row[at + 5] == 1,
-        ast: row[at + 6] == 1,
-        mode: byte_of(row[at + 7]),
-        lines: byte_of(row[at + 8]),
-        fold_trip: row[at + 9] == 1,
-        ovp_trip: row[at + 10] == 1,
-        fena: byte_of(row[at + 11]),
-        feve: byte_of(row[at + 12]),
-        volt_count: count_of(row[at + 13]),
-        amp_count: count_of(row[at + 14]),
+        pv: figure_of(cell(row, at, 0)),
+        pc: figure_of(cell(row, at, 1)),
+        ovp: figure_of(cell(row, at, 2)),
+        uvl: figure_of(cell(row, at, 3)),
+        want: cell(row, at, 4) == 1,
+        armed: cell(row, at, 5) == 1,
+        ast: cell(row, at, 6) == 1,
+        mode: byte_of(cell(row, at, 7)),
+        lines: byte_of(cell(row, at, 8)),
+        fold_trip: cell(row, at, 9) == 1,
+        ovp_trip: cell(row, at, 10) == 1,
+        fena: byte_of(cell(row, at, 11)),
+        feve: byte_of(cell(row, at, 12)),
+        volt_count: count_of(cell(row, at, 13)),
+        amp_count: count_of(cell(row, at, 14)),
     }
 }
 
-fn settings_agree(row: &[u64; CELLS], at: usize, s: Supply) -> bool
-    requires { ⌜ at < 21 ⌝ }
-{
-    (row[at] == s.pv as u64)
-        & (row[at + 1] == s.pc as u64)
-        & (row[at + 2] == s.ovp as u64)
-        & (row[at + 3] == s.uvl as u64)
+fn settings_agree(row: &[u64; CELLS], at: u8, s: Supply) -> bool {
+    (cell(row, at, 0) == s.pv as u64)
+        & (cell(row, at, 1) == s.pc as u64)
+        & (cell(row, at, 2) == s.ovp as u64)
+        & (cell(row, at, 3) == s.uvl as u64)
 }
 
-fn switches_agree(row: &[u64; CELLS], at: usize, s: Supply) -> bool
-    requires { ⌜ at < 21 ⌝ }
-{
-    (row[at + 4] == s.want as u64)
-        & (row[at + 5] == s.armed as u64)
-        & (row[at + 6] == s.ast as u64)
-        & (row[at + 7] == s.mode as u64)
-        & (row[at + 9] == s.fold_trip as u64)
-        & (row[at + 10] == s.ovp_trip as u64)
+fn switches_agree(row: &[u64; CELLS], at: u8, s: Supply) -> bool {
+    (cell(row, at, 4) == s.want as u64)
+        & (cell(row, at, 5) == s.armed as u64)
+        & (cell(row, at, 6) == s.ast as u64)
+        & (cell(row, at, 7) == s.mode as u64)
+        & (cell(row, at, 9) == s.fold_trip as u64)
+        & (cell(row, at, 10) == s.ovp_trip as u64)
 }
 
-fn bytes_agree(row: &[u64; CELLS], at: usize, s: Supply) -> bool
-    requires { ⌜ at < 21 ⌝ }
-{
-    (row[at + 8] == s.lines as u64)
-        & (row[at + 11] == s.fena as u64)
-        & (row[at + 12] == s.feve as u64)
+fn bytes_agree(row: &[u64; CELLS], at: u8, s: Supply) -> bool {
+    (cell(row, at, 8) == s.lines as u64)
+        & (cell(row, at, 11) == s.fena as u64)
+        & (cell(row, at, 12) == s.feve as u64)
 }
 
-fn counts_agree(row: &[u64; CELLS], at: usize, s: Supply) -> bool
-    requires { ⌜ at < 21 ⌝ }
-{
-    (row[at + 13] == s.volt_count as u64) & (row[at + 14] == s.amp_count as u64)
+fn counts_agree(row: &[u64; CELLS], at: u8, s: Supply) -> bool {
+    (cell(row, at, 13) == s.volt_count as u64) & (cell(row, at, 14) == s.amp_count as u64)
 }
 
 // Whether a supply is, in every part of its state, the one that begins at a cell.
-fn supply_agrees(row: &[u64; CELLS], at: usize, s: Supply) -> bool
-    requires { ⌜ at < 21 ⌝ }
-{
+fn supply_agrees(row: &[u64; CELLS], at: u8, s: Supply) -> bool {
     settings_agree(row, at, s)
         & switches_agree(row, at, s)
         & bytes_agree(row, at, s)
@@ -204,7 +197,7 @@ fn word_number(w: Word) -> u64 {
 }
 
 fn answer_is(row: &[u64; CELLS], kind: u64, a: u64, b: u64) -> bool {
-    (row[ANSWER] == kind) & (row[ANSWER + 1] == a) & (row[ANSWER + 2] == b)
+    (cell(row, ANSWER, 0) == kind) & (cell(row, ANSWER, 1) == a) & (cell(row, ANSWER, 2) == b)
 }
 
 fn answer_agrees(row: &[u64; CELLS], a: Answer) -> bool {
@@ -218,29 +211,29 @@ fn answer_agrees(row: &[u64; CELLS], a: Answer) -> bool {
 // A query is answered from the supply before it; no other act has an answer.
 fn reply_agrees(row: &[u64; CELLS], model: u8, s: Supply, a: Act) -> bool {
     match a {
-        Act::Ask(q) => answer_agrees(row, acts::answer_to(model, s, q)),
+        Act::Ask(q) => answer_agrees(row, answers::answer_to(model, s, q)),
         _ => answer_is(row, 0, 0, 0),
     }
 }
 
 // Whether there are such a model, such an act, and the supply that was made of the row.
 fn row_reads(row: &[u64; CELLS], before: Supply) -> bool {
-    let kind = row[ACT];
-    (row[0] < 12)
+    let kind = cell(row, ACT, 0);
+    (cell(row, 0, 0) < 12)
         & supply_agrees(row, BEFORE, before)
-        & (row[ACT + 1] < first_values(kind))
-        & (row[ACT + 2] < second_values(kind))
+        & (cell(row, ACT, 1) < first_values(kind))
+        & (cell(row, ACT, 2) < second_values(kind))
 }
 
 // Whether the supply does what the row expects.
 pub fn row_holds(row: &[u64; CELLS]) -> bool {
-    let model = byte_of(row[0]);
+    let model = byte_of(cell(row, 0, 0));
     let before = supply_at(row, BEFORE);
-    let act = act_of(row[ACT], row[ACT + 1], row[ACT + 2]);
+    let act = act_of(cell(row, ACT, 0), cell(row, ACT, 1), cell(row, ACT, 2));
     let done = acts::perform(model, before, act);
     let after = done.supply;
     row_reads(row, before)
-        & (row[CODE] == done.code as u64)
+        & (cell(row, CODE, 0) == done.code as u64)
         & supply_agrees(row, AFTER, after)
         & reply_agrees(row, model, before, act)
 }

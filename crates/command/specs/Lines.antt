@@ -1,19 +1,16 @@
--- A line's kept characters: its sum, its word and its parameter, and what it asks.
-use Prim.Native.Nat.{ℕ, _+_, _-_}
+-- A line's kept characters: its sum, and what the line asks at its CR.
+use Prim.Native.Nat.{ℕ, _-_}
 use mathlib.Core.List.{List}
-use mathlib.Core.Bool.{Bool, true, false, not, _&&_}
+use mathlib.Core.Bool.{Bool, true, false, _&&_}
 use lib.Dec.{leb, eqb}
 use lib.ListN.{length, getD, take, drop}
 use Rattle.base.specs.Choice.{pick}
-use Rattle.figures.specs.Number.{firstAt}
 use Rattle.hex.specs.Hex.{readHex, checksum}
-use Rattle.words.specs.Words.{upperAll}
-use Rattle.supply.specs.declared.Act.the-variants.{Nothing}
-use Rattle.command.specs.declared.Asks.{Asks}
-use Rattle.command.specs.declared.Asks.the-variants.{One, Error}
+use Rattle.asks.specs.declared.Asks.{Asks}
+use Rattle.asks.specs.declared.Asks.the-variants.{Error}
 use Rattle.command.specs.declared.Heard.{Heard}
-use Rattle.parameters.specs.Parameters.{isEmpty, c01, c04}
-use Rattle.command.specs.Words.{commandOf, askedBy}
+use Rattle.parameters.specs.Parameters.{c01, c04}
+use Rattle.asks.specs.Asked.{asksOf}
 
 -- a line has a sum where its third last character is $ (36)
 abbrev pub hasSum : List ℕ → Bool
@@ -26,17 +23,6 @@ summedPart t = take (length t - 3) t
 -- the last two are hexadecimal digits of either case and are the sum of all bytes before the $
 unfoldable pub rightSum : List ℕ → Bool
 rightSum t = readHex (drop (length t - 2) t) .good && eqb (readHex (drop (length t - 2) t) .value) (checksum (summedPart t))
-
--- the word is all up to the first space (32), the parameter all after it
-abbrev pub wordOf : List ℕ → List ℕ
-wordOf t = take (firstAt 32 t) t
-
-abbrev pub parameterText : List ℕ → List ℕ
-parameterText t = drop (firstAt 32 t + 1) t
-
--- what a line without its sum asks; an empty one asks nothing, and is OK
-unfoldable pub asksOf : List ℕ → Asks
-asksOf t = pick (isEmpty t) (One Nothing) (askedBy (commandOf (upperAll (wordOf t))) (parameterText t))
 
 abbrev pub heardAs : Asks → Bool → Heard
 heardAs a t = record { asks = a; summed = t }

@@ -15,9 +15,8 @@ use Rattle.supply.specs.declared.Supply.{Supply}
 use Rattle.slots.specs.declared.Rack.{Rack}
 use Rattle.slots.specs.View.{viewOf}
 use Rattle.turn.specs.declared.Worked.{Worked}
-use Rattle.turn.specs.Cuts.{Waits, Final, Reads, nothing, read}
-use Rattle.turn.proofs.Works.{waiting-short}
-use Rattle.turn.proofs.Cuts.{so-far}
+use Rattle.cuts.specs.Cuts.{Waits, Final, Reads, nothing, read}
+use Rattle.cuts.proofs.Cuts.{waiting-short, so-far}
 use Rattle.controller.specs.Input.{AllWorked, InputDoes}
 
 -- where the loop over reads stands: what was read so far, and why it goes on or ends; left is the count of reads that it may still make

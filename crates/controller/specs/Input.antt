@@ -11,7 +11,7 @@ use Rattle.slots.specs.declared.Rack.{Rack}
 use Rattle.slots.specs.View.{viewOf}
 use Rattle.turn.specs.declared.Worked.{Worked}
 use Rattle.turn.specs.Turn.{FieldsDo}
-use Rattle.turn.specs.Cuts.{Final, Reads}
+use Rattle.cuts.specs.Cuts.{Final, Reads}
 
 -- of the bytes that are there: the rack and the bytes used are those of accepted calls, and the code is that of the refusal behind
 -- them. That what they said is written is not said here: the contract of a write does not speak of its bytes

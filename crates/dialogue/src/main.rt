@@ -9,7 +9,7 @@
 // were expected and how many items went wrong, and before that where the first wrong ones stand.
 ghost use Prim.Native.Nat.{_<_, _≤_};
 ghost use lib.ListN.{length};
-use command::Asks;
+use asks::Asks;
 use libc::STDIN_FILENO;
 use libc::STDOUT_FILENO;
 use reply::Obeyed;
@@ -122,7 +122,7 @@ fn obey_silently(model: u8, s: Supply, a: Act) -> Obeyed {
 
 // OK, or a code, from a supply that does nothing.
 fn reply_code(s: Supply, code: u8, summed: bool, buf: &mut [u8]) -> Obeyed {
-    let next = reply::put_code_reply(buf, 0, code, summed);
+    let next = texts::put_code_reply(buf, 0, code, summed);
     Obeyed { supply: s, next }
 }
 
@@ -243,7 +243,7 @@ fn take_items(s: &[u8]) -> Talk {
 fn main() {
     let mut input = [0u8; INPUT];
     let n = io::read_full(STDIN_FILENO, &mut input);
-    let t = take_items(&input[..n]);
+    let t = take_items(base::part_to(&input, n));
     io::print_decimal(STDOUT_FILENO, t.replies);
     io::write_all(STDOUT_FILENO, b" replies, ");
     io::print_decimal(STDOUT_FILENO, t.wrong);

@@ -1,14 +1,12 @@
 -- A formula for each field, against the paper's sentences: by cases on their tests.
 use mathlib.Core.Path.{_≡_, refl}
-use mathlib.Core.Bool.{Bool, true, false, not, _&&_, _||_}
+use mathlib.Core.Bool.{Bool, true, false, not, _&&_}
 use Prim.Native.Nat.{ℕ}
-use lib.Dec.{eqb, leb}
+use lib.Dec.{eqb}
 use Rattle.base.specs.Choice.{pick}
-use Rattle.models.specs.Models.{voltReading}
 use Rattle.supply.specs.declared.Supply.{Supply}
-use Rattle.supply.specs.With.{withWant, withArmed, withMode, withLines, withFoldTrip, withOvpTrip, withCounts}
-use Rattle.supply.specs.Flt.{onOf, inLimit}
-use Rattle.events.specs.Events.{anyRises, falls, acFallen, linesChanged, sampled, disarmed}
+use Rattle.supply.specs.With.{withWant, withArmed, withMode, withLines, withFoldTrip, withOvpTrip}
+use Rattle.events.specs.Events.{anyRises, falls, acFallen, linesChanged, disarmed}
 
 module _ (s : Supply) (b : ℕ) where
   -- rose: a bit rose while AST is off; ac: AC fell; so: SO fell under AST
@@ -36,22 +34,6 @@ module _ (s : Supply) (b : ℕ) where
       ≡ linesChanged s b
   unfolding linesChanged
   lines-law = lines-cases (anyRises (s .lines) b && not (s .ast)) (falls 1 (s .lines) b) (falls 5 (s .lines) b && s .ast)
-
-module _ (m : ℕ) (s : Supply) (v a : ℕ) where
-  sample-cases : (on over limited : Bool) →
-      withOvpTrip ((on && over) || s .«ovp_trip») (withFoldTrip (((on && not over) && limited) || s .«fold_trip») (withCounts v a s))
-      ≡ pick on (pick over (withOvpTrip true (withCounts v a s)) (pick limited (withFoldTrip true (withCounts v a s)) (withCounts v a s))) (withCounts v a s)
-  sample-cases true true limited = refl
-  sample-cases true false true = refl
-  sample-cases true false false = refl
-  sample-cases false over limited = refl
-
-  pub sample-law :
-      withOvpTrip ((onOf s && leb (s .ovp) (voltReading m v)) || s .«ovp_trip»)
-      (withFoldTrip (((onOf s && not (leb (s .ovp) (voltReading m v))) && (s .armed && inLimit m (withCounts v a s))) || s .«fold_trip») (withCounts v a s))
-      ≡ sampled m s v a
-  unfolding sampled
-  sample-law = sample-cases (onOf s) (leb (s .ovp) (voltReading m v)) (s .armed && inLimit m (withCounts v a s))
 
 pub disarm-law : (s : Supply) → withArmed false (withWant (not (s .«fold_trip») && s .want) (withFoldTrip false s)) ≡ disarmed s
 unfolding disarmed

@@ -1,17 +1,16 @@
--- What the events that come by no serial line do to a supply: LINES, a sample, keys and the knob.
+-- What LINES, keys and the knob do to a supply; none of them comes by the serial line.
 use Prim.Native.Nat.{ℕ, _-_}
 use mathlib.Core.Bool.{Bool, true, false, not, _&&_}
 use lib.Bits.{bitAnd}
-use lib.Dec.{leb, eqb}
+use lib.Dec.{eqb}
 use Rattle.base.specs.Choice.{pick}
 use Rattle.base.specs.Bits.{bitAt}
-use Rattle.models.specs.Models.{voltReading}
 use Rattle.supply.specs.declared.Supply.{Supply}
 use Rattle.supply.specs.declared.Key.{Key}
 use Rattle.supply.specs.declared.Key.the-variants.{Output, Fold, Local}
 use Rattle.supply.specs.declared.Target.{Target}
-use Rattle.supply.specs.With.{withWant, withArmed, withMode, withLines, withFoldTrip, withOvpTrip, withCounts}
-use Rattle.supply.specs.Flt.{onOf, linesClear, inLimit}
+use Rattle.supply.specs.With.{withWant, withArmed, withMode, withLines, withFoldTrip, withOvpTrip}
+use Rattle.supply.specs.Flt.{onOf, linesClear}
 use Rattle.settings.specs.Settings.{withSetting, stepped}
 
 -- any bit of LINES rises; bit k of it falls
@@ -31,16 +30,6 @@ linesChanged s b =
     let dropped = pick (anyRises (s .lines) b && not (s .ast)) (withWant false s) s in
     let freed = pick (falls 1 (s .lines) b) (acFallen dropped) dropped in
     withLines b (pick (falls 5 (s .lines) b && s .ast) (withOvpTrip false freed) freed)
-
--- a sample: the counts are stored in any case; with the output on before it, over-voltage is judged first, and only else,
--- where foldback is armed, the current
-unfoldable pub sampled : ℕ → Supply → ℕ → ℕ → Supply
-sampled m s v a =
-    let stored = withCounts v a s in
-    pick (onOf s)
-    (pick (leb (s .ovp) (voltReading m v)) (withOvpTrip true stored)
-    (pick (s .armed && inLimit m stored) (withFoldTrip true stored) stored))
-    stored
 
 -- turned on: WANT on and no trip left
 unfoldable pub turnedOn : Supply → Supply

@@ -1,11 +1,11 @@
-// What LINES, a sample, keys and the knob do to a supply.
+// What LINES, keys and the knob do to a supply.
 ghost use mathlib.Core.Path.{_≡_};
 ghost use mathlib.Core.Bool.{true, false};
 ghost use lib.Dec.{eqb};
 ghost use Rattle.base.specs.Choice.{pick};
 ghost use Rattle.supply.specs.With.{withWant, withArmed};
 ghost use Rattle.supply.specs.Flt.{onOf, linesClear};
-ghost use Rattle.events.specs.Events.{anyRises, falls, linesChanged, sampled, turnedOn, disarmed, pressed, turned};
+ghost use Rattle.events.specs.Events.{anyRises, falls, linesChanged, turnedOn, disarmed, pressed, turned};
 use supply::Key;
 use supply::Supply;
 use supply::Target;
@@ -56,26 +56,6 @@ pub fn lines_changed(s: Supply, b: u8) -> Supply
     t.fold_trip = !ac & s.fold_trip;
     t.ovp_trip = !(so & s.ast) & (!ac & s.ovp_trip);
     t.mode = mode;
-    t
-}
-
-// A sample of two counts. They are read only with the output on, since only then do they trip.
-pub fn sampled_at(model: u8, s: Supply, v: u16, a: u16) -> Supply
-    ensures { λ r. ⌜ r ≡ sampled model s v a ⌝ }
-{
-    let mut t = s;
-    t.volt_count = v;
-    t.amp_count = a;
-    if supply::is_on(s) {
-        let read = models::readings_of(model, v, a);
-        let over = (s.ovp as u64) <= read.volts;
-        let limited = s.armed & supply::reaches_pc(s, read.amps);
-        if over {
-            t.ovp_trip = true;
-        } else if limited {
-            t.fold_trip = true;
-        }
-    }
     t
 }
 

@@ -8,13 +8,13 @@ use borrow.Author.Tests.{ne-eqb, not-true}
 use Rattle.base.specs.Choice.{pick}
 use Rattle.base.proofs.Choice.{and-both}
 use Rattle.wire.specs.Machine.{keep, flat}
-use Rattle.wire.specs.Wire.{Class, Delivery, one, line, Item, byte, event, Entry, Call, modelAt, fitted, nobody, parse}
+use Rattle.wire.specs.Wire.{Class, Delivery, one, line, Item, byte, event, Entry, Call, nobody, parse}
 use Rattle.wire.specs.declared.Setup.{Setup}
 use Rattle.wire.specs.Share.{typed, ended, items, stream, pieces, routes, selected, handed, brought, forSlot, shareOf}
 use Rattle.wire.proofs.Machine.{flat-append}
 use Rattle.supply.specs.declared.Supply.{Supply}
 use Rattle.supply.specs.Flt.{onOf}
-use Rattle.acts.specs.Answers.{answerOf}
+use Rattle.answers.specs.Answers.{answerOf}
 use Rattle.plain.specs.Plain.{grammar, replyTo}
 use Rattle.slots.specs.declared.Rack.{Rack}
 use Rattle.rack.specs.Demand3.{setupOf, supplyAt}

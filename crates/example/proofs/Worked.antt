@@ -1,39 +1,39 @@
 -- The worked list of calls, by computation; and what demand 3 says of it.
-use Prim.Native.Nat.{ℕ}
 use mathlib.Core.Path.{_≡_, refl, sym, ap, _∙_}
-use mathlib.Core.List.{List, [], _∷_, _++_}
-use mathlib.Core.Bool.{true, false}
-use lib.Dec.{eqb}
+use mathlib.Core.List.{[], _∷_, _++_}
+use mathlib.Core.Bool.{true}
 use Rattle.models.specs.Models.{table, limitsOf, voltReading, ampReading}
 use Rattle.figures.specs.Digits.{allDigits, runValue}
 use Rattle.figures.specs.Number.{firstAt, wellFormed, wholeUnits, scaledValue, readNumber}
 use Rattle.hex.specs.Hex.{isHex, hexOf, readHex, hexPair, total, checksum}
-use Rattle.figures.specs.Figure.{fixed, shortest, decimals, figure}
+use Rattle.prints.specs.Figure.{fixed, shortest, decimals, figure}
 use Rattle.supply.specs.State.{fresh}
 use Rattle.supply.specs.Flt.{fltOf, onOf, linesClear, inLimit, settled}
 use Rattle.settings.specs.Settings.{settingOf, withSetting, leastOf, mostOf, signedOf, nearestIn, stepped}
-use Rattle.events.specs.Events.{sampled, turnedOn, turned}
-use Rattle.orders.specs.Orders.{setCode, orderCode, remote, remoteBy, outDone, ordered}
+use Rattle.samples.specs.Samples.{sampled}
+use Rattle.events.specs.Events.{turnedOn, turned}
+use Rattle.codes.specs.Codes.{setCode, orderCode}
+use Rattle.orders.specs.Orders.{remote, remoteBy, outDone, ordered}
 use Rattle.acts.specs.Acts.{codeOf, clearingQuery, clearingOrder, clearingAct, acted, performed}
-use Rattle.acts.specs.Answers.{answerOf}
-use Rattle.acts.specs.Releases.{Trip, ovp, releases}
+use Rattle.answers.specs.Answers.{answerOf}
+use Rattle.acts.specs.Releases.{ovp, releases}
 use Rattle.words.specs.Words.{findWord}
 use Rattle.parameters.specs.Parameters.{readAs, parameterOf}
-use Rattle.command.specs.Words.{askedBy}
-use Rattle.command.specs.Lines.{rightSum, asksOf, heardOf}
-use Rattle.reply.specs.Texts.{codeText, wordText, answerText, ending}
+use Rattle.asks.specs.Words.{askedBy}
+use Rattle.asks.specs.Asked.{asksOf}
+use Rattle.command.specs.Lines.{rightSum, heardOf}
+use Rattle.texts.specs.Texts.{codeText, wordText, answerText, ending}
 use Rattle.reply.specs.Obeying.{saidOf}
 use Rattle.protocol.specs.Sent.{obeyed, repliedTo}
 use Rattle.field.specs.Fields.{lengthFits, headerCode, valuesFit, actOf, readField}
-use Rattle.wire.specs.Wire.{field, modelAt, byteOn, parse}
+use Rattle.wire.specs.Wire.{field, byteOn, parse}
 use Rattle.wire.specs.Demand3.{TrippedBy}
 use Rattle.wire.specs.Share as share
 use Rattle.wire.specs.Share.{brought, shareOf}
-use Rattle.wire.specs.Rack.{callOf, freshRack, run, plain}
+use Rattle.wire.specs.Rack.{callOf, freshRack, plain}
 use Rattle.plain.specs.Plain.{plainSupply, grammar, trips, stepOf, replyTo, classOf, releasesOf}
-use Rattle.slots.specs.declared.Rack.{Rack}
-use Rattle.rack.specs.Demand3.{Run, setupOf, supplyAt}
-use Rattle.fitting.specs.Fitting.{allAllowed, goodList}
+use Rattle.rack.specs.Demand3.{setupOf, supplyAt}
+use Rattle.fitting.specs.Fitting.{allAllowed}
 use Rattle.rack.proofs.Isolation.{isolated-code}
 use Rattle.rack.proofs.Existence.{some-run}
 use Rattle.example.specs.Worked.{fittingList, tripping, tripped, released, calls, listAlone, alone, answers, expected, typed, shareTripping, shareTripped, shareReleased, shareNeighbour, endState, WorkedOut}

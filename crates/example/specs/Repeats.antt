@@ -10,7 +10,7 @@ use Rattle.wire.specs.declared.Setup.{Setup}
 use Rattle.wire.specs.Share.{items, shareOf}
 use Rattle.supply.specs.declared.Query.{Query}
 use Rattle.supply.specs.Flt.{onOf}
-use Rattle.acts.specs.Answers.{answerOf}
+use Rattle.answers.specs.Answers.{answerOf}
 use Rattle.plain.specs.Plain.{grammar, replyTo}
 use Rattle.slots.specs.declared.Rack.{Rack}
 use Rattle.rack.specs.Demand3.{Run, setupOf, supplyAt}

@@ -1,5 +1,3 @@
-pub mod Chars
-pub mod Fields
 pub mod Spent
+pub mod Works
 pub mod Steps
-pub mod Runs

@@ -1,25 +1,23 @@
 -- One field more: what the fields before it left and said, and then what it leaves and says.
-use Prim.Native.Nat.{ℕ, _+_, _≤_, _<_}
-use mathlib.Core.Path.{_≡_, refl, sym, ap, subst, _∙_}
+use Prim.Native.Nat.{ℕ, _+_, _≤_}
+use mathlib.Core.Path.{_≡_}
 use mathlib.Core.Logic.{_⊎_, inl, inr}
-use mathlib.Core.Bool.{true}
-use mathlib.Core.List.{List, [], _∷_, _++_}
+use mathlib.Core.List.{List, [], _++_}
 use native.Mathlib.Omega.{arith}
 use native.Mathlib.Nat.{add-zero}
 use lib.ListN.{length, getD, set, drop, length-append}
 use Rattle.base.proofs.Lists.{set-same}
 use Rattle.base.proofs.Put.{put-none, put-then, put-whole, put-length}
 use Rattle.wire.specs.declared.Setup.{Setup}
-use Rattle.wire.specs.Wire.{fitted}
 use Rattle.supply.specs.declared.Supply.{Supply}
 use Rattle.supply.specs.State.{fresh}
-use Rattle.field.specs.Fields.{tagOf}
 use Rattle.serial.specs.declared.Line.{Line}
 use Rattle.slots.specs.declared.Rack.{Rack}
-use Rattle.slots.specs.View.{viewOf, rackIs}
-use Rattle.feed.specs.declared.Step.{Step}
+use Rattle.slots.specs.View.{rackIs}
+use Rattle.step.specs.declared.Step.{Step}
+use Rattle.step.specs.Taken.{Untaken, Reaches, AcceptedAnywhere, TakesDo}
 use Rattle.feed.specs.declared.Fed.{Fed}
-use Rattle.feed.specs.Feed.{none, more, FeedDoes, Untaken, Reaches, AcceptedAnywhere, TakesDo}
+use Rattle.feed.specs.Feed.{none, more, FeedDoes}
 
 abbrev pub fedAs : List Supply → Line → Setup → ℕ → ℕ → Fed
 fedAs ss l u used next = record { rack = rackIs ss l u; used = used; next = next }
@@ -51,11 +49,3 @@ module _ (r : Rack) (s b : List ℕ) (at full : ℕ) (ss : List Supply) (l : Lin
       byTaken : Untaken l x st b′ next b″ ⊎ AcceptedAnywhere u l x (drop used s) st b′ next b″ → FeedDoes r s b at full (fedAs (set ss k (st .supply)) (st .line) u (used + st .used) (st .next)) b″
       byTaken (inl t) = untaken-more t
       byTaken (inr g) = taken-more low reach g
-
--- the slot reached, by the tag
-module _ (u : Setup) (l : Line) (s : List ℕ) (k : ℕ) where
-  pub reached-by-line : tagOf s ≡ 1 → (fitted u (l .selected) ≡ true → k ≡ l .selected) → Reaches u l s k
-  reached-by-line t e = record { by-line = λ q f. e f; by-name = λ q f. absurd (q t) }
-
-  pub reached-by-name : (tagOf s ≡ 1 → ⊥) → (fitted u (getD s 3 0) ≡ true → k ≡ getD s 3 0) → Reaches u l s k
-  reached-by-name t e = record { by-line = λ q f. absurd (t q); by-name = λ q f. e f }

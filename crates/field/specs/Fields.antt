@@ -1,12 +1,12 @@
 -- A field: its tag, length and payload, the refusals that it can draw, and what it brings.
 use Prim.Native.Nat.{ℕ, _+_, _*_}
 use mathlib.Core.List.{List, [], _∷_, map}
-use mathlib.Core.Bool.{Bool, true, false, not, _&&_}
+use mathlib.Core.Bool.{Bool, true, not, _&&_}
 use lib.Bits.{bitAnd}
 use lib.Dec.{leb, ltb, eqb}
 use lib.ListN.{length, getD, take, drop}
 use Rattle.base.specs.Choice.{pick}
-use Rattle.wire.specs.Wire.{field, Item, byte, event, Parsed, refuse, accept}
+use Rattle.wire.specs.Wire.{field, byte, event, Parsed, refuse, accept}
 use Rattle.supply.specs.declared.Key.{Key}
 use Rattle.supply.specs.declared.Key.the-variants as key
 use Rattle.supply.specs.declared.Target.{Target}

@@ -2,7 +2,7 @@
 ghost use mathlib.Core.Path.{_≡_};
 ghost use Prim.Native.Nat.{_+_, _<_, _≤_};
 ghost use lib.ListN.{length, getD, take, drop};
-ghost use Rattle.field.specs.Fields.{pairAt, quadAt, tagOf, lengthOf, payloadOf, lengthFits, headerCode, valuesFit, keyOf, targetOf, actOf};
+ghost use Rattle.field.specs.Fields.{pairAt, quadAt, tagOf, lengthOf, lengthFits, headerCode, valuesFit, keyOf, targetOf, actOf};
 use supply::Act;
 use supply::Key;
 use supply::Target;

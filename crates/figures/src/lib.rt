@@ -1,11 +1,9 @@
-// Figures on the serial line: digits and numbers with decimals, read from bytes and placed into a lent buffer.
+// Figures on the serial line: digits and numbers with decimals, read from bytes.
 ghost use mathlib.Core.Path.{_≡_};
-ghost use Prim.Native.Nat.{ℕ, _+_, _-_, _*_, _/_, _^_, _<_, _≤_};
-ghost use lib.ListN.{length, take, drop};
-ghost use Rattle.base.specs.Put.{Put};
+ghost use Prim.Native.Nat.{_+_, _-_, _*_, _/_, _^_, _<_, _≤_};
+ghost use lib.ListN.{length, drop};
 ghost use Rattle.figures.specs.Digits.{digitOf, runValue, allDigits};
 ghost use Rattle.figures.specs.Number.{firstAt, wholeUnits, scaledValue, readNumber, noNumber};
-ghost use Rattle.figures.specs.Figure.{fixed, shortest, figure};
 
 // What was read: a number, or that the text is none (good is false, and value 0).
 pub struct Number {
@@ -139,49 +137,9 @@ pub fn no_number() -> Number
     }
 }
 
-// Places the last n decimal digits of v.
-fn put_fixed(buf: &mut [u8], at: usize, n: usize, v: u64) -> usize
-    ensures { λ r. ⌜ Put (now (buf .entry)) at (fixed n v) r (now (buf .exit)) ⌝ }
-{
-    if n == 0 {
-        at
-    } else {
-        let p = put_fixed(buf, at, n - 1, v / 10);
-        base::put_byte(buf, p, (48 + v % 10) as u8)
-    }
-}
-
-// Places v with no needless leading zero, where n digits are enough for it.
-fn put_shortest(buf: &mut [u8], at: usize, n: usize, v: u64) -> usize
-    ensures { λ r. ⌜ Put (now (buf .entry)) at (shortest n v) r (now (buf .exit)) ⌝ }
-{
-    if n == 0 {
-        return at;
-    }
-    if v < 10 {
-        base::put_byte(buf, at, (48 + v) as u8)
-    } else {
-        let p = put_shortest(buf, at, n - 1, v / 10);
-        base::put_byte(buf, p, (48 + v % 10) as u8)
-    }
-}
-
 // What of v stands before the point, in units of its k-th decimal; 64 bits have no more than 20 digits.
-fn whole_part(v: u64, k: usize) -> u64
+pub fn whole_part(v: u64, k: usize) -> u64
     ensures { λ r. ⌜ r ≡ v / 10 ^ k ⌝ }
 {
     if 19 < k { 0 } else { v / pow10(k) }
-}
-
-// Places v, in units of its k-th decimal.
-pub fn put_figure(buf: &mut [u8], at: usize, k: usize, v: u64) -> usize
-    ensures { λ r. ⌜ Put (now (buf .entry)) at (figure k v) r (now (buf .exit)) ⌝ }
-{
-    let p = put_shortest(buf, at, 20, whole_part(v, k));
-    if k == 0 {
-        p
-    } else {
-        let q = base::put_byte(buf, p, b'.');
-        put_fixed(buf, q, k, v)
-    }
 }

@@ -61,7 +61,7 @@ fn tell_all(r: Rack, o: Order) -> Rack
     let line = r.line;
     let slots = r.slots;
     let selected = line.selected;
-    let after = serial::order_all(setup, slots, o);
+    let after = globals::order_all(setup, slots, o);
     let ended = serial::cleared(line, selected);
     Rack {
         slots: after,

@@ -1,6 +1,5 @@
 -- What holds of the limits under every model number, by one test computed over the table.
 use Prim.Native.Nat.{ℕ, _*_, _/_, _%_, _^_, _≤_, _<_}
-use mathlib.Core.Path.{_≡_}
 use native.Mathlib.Omega.{arith}
 use Rattle.base.proofs.Product.{below}
 use Rattle.base.proofs.Table.{Check, lt, le, eq, _and_, everywhere}

@@ -1,111 +1,15 @@
-// The order lines: the code of each, and what an accepted one does.
+// What an accepted order does to a supply.
 ghost use mathlib.Core.Path.{_≡_};
-ghost use mathlib.Core.Bool.{_||_};
-ghost use Prim.Native.Nat.{_*_};
-ghost use lib.Dec.{ltb, eqb};
+ghost use lib.Dec.{eqb};
 ghost use Rattle.base.specs.Choice.{pick};
 ghost use Rattle.models.specs.Models.{limitsOf};
 ghost use Rattle.supply.specs.With.{withOvp, withAst, withMode, withFena};
-ghost use Rattle.supply.specs.State.{c05, e01, e02, e04, e06};
 ghost use Rattle.settings.specs.Settings.{withSetting};
-ghost use Rattle.orders.specs.Orders.{above105, setCode, outCode, orderCode, remote, remoteBy, outDone, fldDone, reset, ordered};
-use supply::C05;
+ghost use Rattle.codes.specs.Codes.{orderCode};
+ghost use Rattle.orders.specs.Orders.{remote, remoteBy, outDone, fldDone, reset, ordered};
 use supply::Order;
 use supply::Supply;
 use supply::Target;
-
-const E01: u8 = 0xE1;
-
-const E02: u8 = 0xE2;
-
-const E04: u8 = 0xE4;
-
-const E06: u8 = 0xE6;
-
-const E07: u8 = 0xE7;
-
-// Above 105 % is tested by a division first, so that no number is too large for the products after it.
-fn pv_code(volts: u32, ovp: u32, uvl: u32, n: u64) -> u8
-    ensures { λ r. ⌜ r ≡ pick (above105 volts n) c05 (pick (ltb (20 * ovp) (21 * n)) e01 (pick (ltb (19 * n) (20 * uvl)) e02 0)) ⌝ }
-{
-    if 21 * (volts as u64) / 20 < n {
-        C05
-    } else if 20 * (ovp as u64) < 21 * n {
-        E01
-    } else if 19 * n < 20 * (uvl as u64) {
-        E02
-    } else {
-        0
-    }
-}
-
-fn pc_code(amps: u32, n: u64) -> u8
-    ensures { λ r. ⌜ r ≡ pick (above105 amps n) c05 0 ⌝ }
-{
-    if 21 * (amps as u64) / 20 < n { C05 } else { 0 }
-}
-
-fn ovp_code(least: u32, most: u32, pv: u32, n: u64) -> u8
-    ensures { λ r. ⌜ r ≡ pick (ltb n least || ltb most n) c05 (pick (ltb (20 * n) (21 * pv)) e04 0) ⌝ }
-{
-    if n < (least as u64) {
-        C05
-    } else if (most as u64) < n {
-        C05
-    } else if 20 * n < 21 * (pv as u64) {
-        E04
-    } else {
-        0
-    }
-}
-
-fn uvl_code(most: u32, pv: u32, n: u64) -> u8
-    ensures { λ r. ⌜ r ≡ pick (ltb most n) c05 (pick (ltb (19 * pv) (20 * n)) e06 0) ⌝ }
-{
-    if (most as u64) < n {
-        C05
-    } else if 19 * (pv as u64) < 20 * n {
-        E06
-    } else {
-        0
-    }
-}
-
-// The code of PV n, PC n, OVP n or UVL n.
-fn set_code(model: u8, s: Supply, t: Target, n: u64) -> u8
-    ensures { λ r. ⌜ r ≡ setCode model s t n ⌝ }
-{
-    let l = models::limits_of(model);
-    match t {
-        Target::Pv => pv_code(l.volts, s.ovp, s.uvl, n),
-        Target::Pc => pc_code(l.amps, n),
-        Target::Ovp => ovp_code(l.ovp_least, l.ovp_most, s.pv, n),
-        Target::Uvl => uvl_code(l.uvl_most, s.pv, n),
-    }
-}
-
-fn out_code(on: bool, clear: bool) -> u8
-    ensures { λ r. ⌜ r ≡ outCode on clear ⌝ }
-{
-    if on { if clear { 0 } else { E07 } } else { 0 }
-}
-
-// The code of an order, 0 where it is accepted.
-pub fn order_code(model: u8, s: Supply, o: Order) -> u8
-    ensures { λ r. ⌜ r ≡ orderCode model s o ⌝ }
-{
-    match o {
-        Order::Set(t, n) => set_code(model, s, t, n),
-        Order::Out(on) => out_code(on, supply::lines_clear(s)),
-        Order::Ovm => 0,
-        Order::Fld(_) => 0,
-        Order::Ast(_) => 0,
-        Order::Rmt(_) => 0,
-        Order::Fena(_) => 0,
-        Order::Cls => 0,
-        Order::Rst => 0,
-    }
-}
 
 // MODE after an accepted order that takes remote control.
 fn remote_mode(mode: u8) -> u8

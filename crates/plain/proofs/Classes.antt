@@ -1,5 +1,5 @@
 -- The class of a line, part by part.
-use Prim.Native.Nat.{ℕ, _≤_, _<_}
+use Prim.Native.Nat.{ℕ, _≤_}
 use mathlib.Core.Path.{_≡_, refl, sym, ap, _∙_}
 use mathlib.Core.List.{List, []}
 use mathlib.Core.Bool.{Bool, true, false, false≢true}
@@ -15,11 +15,12 @@ use Rattle.supply.specs.declared.Supply.{Supply}
 use Rattle.supply.specs.declared.Act.the-variants.{Nothing}
 use Rattle.supply.specs.State.{c05}
 use Rattle.parameters.specs.declared.Parameter.{Parameter}
-use Rattle.command.specs.declared.Asks.{Asks}
-use Rattle.command.specs.declared.Asks.the-variants.{Select, BadSelect, Everyone, Nobody, One, Error}
+use Rattle.asks.specs.declared.Asks.{Asks}
+use Rattle.asks.specs.declared.Asks.the-variants.{Select, BadSelect, Everyone, Nobody, One, Error}
 use Rattle.parameters.specs.Parameters.{address, c04, isEmpty, needed, within30, readAs, refusedBy, parameterOf}
-use Rattle.command.specs.Words.{Command, commands, selecting, unknownWord, commandOf, askedBy}
-use Rattle.command.specs.Lines.{hasSum, rightSum, summedPart, wordOf, parameterText, asksOf, heardAs, heardOf}
+use Rattle.asks.specs.Words.{Command, commands, selecting, unknownWord, commandOf, askedBy}
+use Rattle.asks.specs.Asked.{wordOf, parameterText, asksOf}
+use Rattle.command.specs.Lines.{hasSum, rightSum, summedPart, heardAs, heardOf}
 use Rattle.protocol.specs.Sent.{repliedTo}
 use Rattle.plain.specs.Plain.{classBy, classOf}
 use Rattle.plain.specs.Classes.{Classes}

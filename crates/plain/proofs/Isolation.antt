@@ -1,8 +1,8 @@
 -- Demand 3 of the plain supply on real lines and fields: the laws that it owes, and the theorem for every setup and list of calls.
 use Prim.Native.Nat.{ℕ}
-use mathlib.Core.Path.{_≡_, refl}
+use mathlib.Core.Path.{_≡_}
 use mathlib.Core.List.{List}
-use mathlib.Core.Bool.{true, false, true≢false, false≢true}
+use mathlib.Core.Bool.{true, false, false≢true}
 use Rattle.wire.specs.declared.Setup.{Setup}
 use Rattle.wire.specs.Wire.{Entry, field, line, Call, modelAt}
 use Rattle.wire.specs.Laws.{Laws}
@@ -14,8 +14,8 @@ use Rattle.settings.specs.Lawful.{Lawful}
 use Rattle.acts.specs.Releases.{Trip, isSet}
 use Rattle.acts.proofs.Keeps.{fresh-lawful, performed-lawful}
 use Rattle.acts.proofs.Trips.{shut, held, frees}
-use Rattle.command.specs.declared.Asks.{Asks}
-use Rattle.command.specs.declared.Asks.the-variants.{Select, BadSelect, Everyone, Nobody, One, Error}
+use Rattle.asks.specs.declared.Asks.{Asks}
+use Rattle.asks.specs.declared.Asks.the-variants.{Select, BadSelect, Everyone, Nobody, One, Error}
 use Rattle.command.specs.Lines.{heardOf}
 use Rattle.protocol.specs.Sent.{obeyed}
 use Rattle.field.specs.Fields.{actOf}

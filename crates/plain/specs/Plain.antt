@@ -11,10 +11,10 @@ use Rattle.supply.specs.State.{fresh}
 use Rattle.supply.specs.Flt.{onOf}
 use Rattle.acts.specs.Acts.{performed}
 use Rattle.acts.specs.Releases.{Trip, isSet, releases}
-use Rattle.command.specs.declared.Asks.{Asks}
-use Rattle.command.specs.declared.Asks.the-variants.{Select, BadSelect, Everyone, Nobody, One, Error}
+use Rattle.asks.specs.declared.Asks.{Asks}
+use Rattle.asks.specs.declared.Asks.the-variants.{Select, BadSelect, Everyone, Nobody, One, Error}
 use Rattle.command.specs.Lines.{heardOf}
-use Rattle.reply.specs.Texts.{codeText, replyOf}
+use Rattle.texts.specs.Texts.{codeText, replyOf}
 use Rattle.protocol.specs.Sent.{obeyed, repliedTo}
 use Rattle.field.specs.Fields.{actOf, readField}
 

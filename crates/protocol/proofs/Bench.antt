@@ -1,23 +1,25 @@
 -- The ten bench figures, by computation.
 use mathlib.Core.Path.{refl}
-use lib.Dec.{eqb}
 use Rattle.models.specs.Models.{table, limitsOf, voltReading, ampReading}
 use Rattle.figures.specs.Digits.{allDigits, runValue}
 use Rattle.figures.specs.Number.{firstAt, wellFormed, wholeUnits, scaledValue, readNumber}
 use Rattle.hex.specs.Hex.{isHex, hexOf, readHex, hexPair, total, checksum}
-use Rattle.figures.specs.Figure.{fixed, shortest, decimals, figure}
+use Rattle.prints.specs.Figure.{fixed, shortest, decimals, figure}
 use Rattle.supply.specs.State.{fresh}
 use Rattle.supply.specs.Flt.{fltOf, onOf, linesClear, inLimit, settled}
 use Rattle.settings.specs.Settings.{settingOf, withSetting, leastOf, mostOf, signedOf, nearestIn, stepped}
-use Rattle.events.specs.Events.{sampled, turnedOn, turned}
-use Rattle.orders.specs.Orders.{setCode, orderCode, remote, remoteBy, outDone, ordered}
+use Rattle.samples.specs.Samples.{sampled}
+use Rattle.events.specs.Events.{turnedOn, turned}
+use Rattle.codes.specs.Codes.{setCode, orderCode}
+use Rattle.orders.specs.Orders.{remote, remoteBy, outDone, ordered}
 use Rattle.acts.specs.Acts.{codeOf, clearingQuery, clearingOrder, clearingAct, acted, performed}
-use Rattle.acts.specs.Answers.{answerOf}
+use Rattle.answers.specs.Answers.{answerOf}
 use Rattle.words.specs.Words.{findWord}
 use Rattle.parameters.specs.Parameters.{readAs, parameterOf}
-use Rattle.command.specs.Words.{askedBy}
-use Rattle.command.specs.Lines.{rightSum, asksOf, heardOf}
-use Rattle.reply.specs.Texts.{codeText, wordText, answerText, ending}
+use Rattle.asks.specs.Words.{askedBy}
+use Rattle.asks.specs.Asked.{asksOf}
+use Rattle.command.specs.Lines.{rightSum, heardOf}
+use Rattle.texts.specs.Texts.{codeText, answerText, ending}
 use Rattle.reply.specs.Obeying.{saidOf}
 use Rattle.protocol.specs.Sent.{obeyed, repliedTo}
 use Rattle.protocol.specs.Bench.{benchFigures, BenchFigures}

@@ -1,22 +1,20 @@
 -- A line draws at most three bytes of reply for each of its characters and for its CR.
-use Prim.Native.Nat.{ℕ, suc, _+_, _-_, _*_, _^_, _<_, _≤_}
-use mathlib.Core.Path.{_≡_, refl, sym, ap, _∙_}
-use mathlib.Core.List.{List, [], _∷_, _++_}
-use mathlib.Core.Bool.{Bool, true, false, _&&_, false≢true}
+use Prim.Native.Nat.{ℕ, _+_, _-_, _*_, _^_, _<_, _≤_}
+use mathlib.Core.Path.{_≡_, refl, sym, _∙_}
+use mathlib.Core.List.{List}
+use mathlib.Core.Bool.{Bool, true, false, false≢true}
 use native.Mathlib.Nat.{lt-of-lt-of-le}
 use native.Mathlib.Omega.{arith}
 use lib.Dec.{leb, ltb, eqb, lit<, lit≤}
-use lib.ListN.{length, getD, take, length-append, length-take, length-map}
-use borrow.Author.Tests.{eqb-true, eqb-false, ltb-true, ltb-false, leb-true}
+use lib.ListN.{length, getD, length-append, length-take, length-map}
+use borrow.Author.Tests.{eqb-false, ltb-true, ltb-false, leb-true}
 use Rattle.base.specs.Choice.{pick}
 use Rattle.base.proofs.Choice.{pick-keeps, and-both}
-use Rattle.models.specs.Models.{voltReading, ampReading}
 use Rattle.models.proofs.Rules.{volts-small, amps-small}
-use Rattle.figures.specs.Figure.{figure}
+use Rattle.prints.specs.Figure.{figure}
 use Rattle.hex.specs.Hex.{hexPair}
-use Rattle.figures.specs.Number.{firstAt}
-use Rattle.figures.proofs.Print.{length-figure}
-use Rattle.words.specs.Words.{Row, sameWord, findWord, upper, upperAll}
+use Rattle.prints.proofs.Print.{length-figure}
+use Rattle.words.specs.Words.{upper, upperAll}
 use Rattle.words.proofs.Table.{find-has}
 use Rattle.supply.specs.declared.Supply.{Supply}
 use Rattle.supply.specs.declared.Target.the-variants.{Pv, Pc, Ovp, Uvl}
@@ -24,18 +22,18 @@ use Rattle.supply.specs.declared.Query.{Query}
 use Rattle.supply.specs.declared.Query.the-variants as query
 use Rattle.supply.specs.declared.Word.{Word}
 use Rattle.supply.specs.declared.Word.the-variants.{On, Off, Loc, Rem, Llo, Cc, Cv}
-use Rattle.supply.specs.declared.Act.{Act}
 use Rattle.supply.specs.declared.Act.the-variants.{Lines, Sample, Press, Turn, Obey, Ask, Nothing}
 use Rattle.supply.specs.Flt.{onOf}
 use Rattle.settings.specs.Settings.{settingOf}
 use Rattle.acts.specs.Acts.{codeOf}
-use Rattle.acts.specs.Answers.{answerOf, switchOf, modeWord, running}
-use Rattle.command.specs.declared.Asks.{Asks}
-use Rattle.command.specs.declared.Asks.the-variants.{Select, BadSelect, Everyone, Nobody, One, Error}
+use Rattle.answers.specs.Answers.{answerOf, switchOf, modeWord, running}
+use Rattle.asks.specs.declared.Asks.{Asks}
+use Rattle.asks.specs.declared.Asks.the-variants.{Select, BadSelect, Everyone, Nobody, One, Error}
 use Rattle.parameters.specs.Parameters.{c01, c04, isEmpty, parameterOf}
-use Rattle.command.specs.Words.{Command, commands, unknownWord, commandOf, askedBy}
-use Rattle.command.specs.Lines.{hasSum, rightSum, summedPart, wordOf, parameterText, asksOf, heardAs, heardOf}
-use Rattle.reply.specs.Texts.{codeText, wordText, answerText, ending, replyOf}
+use Rattle.asks.specs.Words.{Command, commands, unknownWord, commandOf, askedBy}
+use Rattle.asks.specs.Asked.{wordOf, parameterText, asksOf}
+use Rattle.command.specs.Lines.{hasSum, rightSum, summedPart, heardAs, heardOf}
+use Rattle.texts.specs.Texts.{codeText, wordText, answerText, ending}
 use Rattle.reply.specs.Obeying.{saidOf}
 use Rattle.protocol.specs.Sent.{repliedTo}
 use Rattle.protocol.specs.SentBack.{Sized, Room}

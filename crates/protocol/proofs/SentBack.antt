@@ -1,18 +1,17 @@
 -- A printed setting is read as itself; accepted where it stands.
-use Prim.Native.Nat.{ℕ, suc, _+_, _-_, _*_, _/_, _%_, _^_, _<_, _≤_}
+use Prim.Native.Nat.{ℕ, suc, _+_, _-_, _/_, _^_, _<_, _≤_}
 use mathlib.Core.Path.{_≡_, refl, sym, ap, _∙_}
 use mathlib.Core.List.{List, [], _∷_, _++_}
 use mathlib.Core.Bool.{Bool, true, false, _&&_}
 use native.Mathlib.Omega.{arith}
-use lib.Dec.{leb, eqb, lit<}
+use lib.Dec.{leb, lit<}
 use lib.ListN.{length, getD, length-append}
 use lib.Seq.{getD-append-add}
 use borrow.Author.Tests.{ne-eqb}
-use Rattle.base.specs.Choice.{pick}
-use Rattle.figures.specs.Number.{firstAt, numberIs, readNumber}
-use Rattle.figures.specs.Figure.{fixed, shortest, decimals, figure}
-use Rattle.figures.proofs.Print.{length-fixed}
-use Rattle.figures.proofs.RoundTrip.{read-short}
+use Rattle.figures.specs.Number.{firstAt}
+use Rattle.prints.specs.Figure.{fixed, shortest, decimals, figure}
+use Rattle.prints.proofs.Print.{length-fixed}
+use Rattle.prints.proofs.RoundTrip.{read-short}
 use Rattle.words.specs.Words.{findWord}
 use Rattle.supply.specs.declared.Supply.{Supply}
 use Rattle.supply.specs.declared.Target.{Target}
@@ -23,15 +22,17 @@ use Rattle.supply.specs.Flt.{settled}
 use Rattle.settings.specs.Settings.{settingOf, withSetting}
 use Rattle.settings.specs.Lawful.{Lawful}
 use Rattle.settings.proofs.Knob.{same-setting}
-use Rattle.orders.specs.Orders.{setCode, orderCode, remote, remoteBy, ordered}
+use Rattle.codes.specs.Codes.{orderCode}
+use Rattle.orders.specs.Orders.{remote, remoteBy, ordered}
 use Rattle.acts.specs.Acts.{codeOf, clearingOrder, clearingAct, acted, performed}
-use Rattle.acts.specs.Answers.{answerOf}
+use Rattle.answers.specs.Answers.{answerOf}
 use Rattle.acts.proofs.Keeps.{admissible-accepted}
-use Rattle.command.specs.declared.Asks.the-variants.{One}
+use Rattle.asks.specs.declared.Asks.the-variants.{One}
 use Rattle.parameters.specs.Parameters.{number, isEmpty, readAs, parameterOf}
-use Rattle.command.specs.Words.{toOne, askedBy}
-use Rattle.command.specs.Lines.{hasSum, asksOf, heardAs, heardOf}
-use Rattle.reply.specs.Texts.{answerText, ending}
+use Rattle.asks.specs.Words.{toOne, askedBy}
+use Rattle.asks.specs.Asked.{asksOf}
+use Rattle.command.specs.Lines.{hasSum, heardAs, heardOf}
+use Rattle.texts.specs.Texts.{answerText, ending}
 use Rattle.reply.specs.Obeying.{saidOf}
 use Rattle.protocol.specs.Sent.{repliedTo}
 use Rattle.protocol.specs.SentBack.{queryOf, queryWord, orderWord, SentBack}

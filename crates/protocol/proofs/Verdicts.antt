@@ -1,19 +1,20 @@
 -- A line is what the first stage that applies says; so a line that deserves two verdicts gets the earlier.
-use mathlib.Core.Path.{_≡_, refl, sym, ap, _∙_}
+use mathlib.Core.Path.{_≡_, refl, ap}
 use mathlib.Core.List.{List, [], _∷_, _++_}
 use mathlib.Core.Bool.{Bool, true, false, not, _&&_}
 use Prim.Native.Nat.{ℕ}
-use lib.Dec.{ltb, eqb}
+use lib.Dec.{ltb}
 use Rattle.base.specs.Choice.{pick}
 use Rattle.supply.specs.declared.Act.the-variants.{Nothing}
 use Rattle.supply.specs.State.{c05}
-use Rattle.command.specs.declared.Asks.{Asks}
-use Rattle.command.specs.declared.Asks.the-variants.{One, Error}
+use Rattle.asks.specs.declared.Asks.{Asks}
+use Rattle.asks.specs.declared.Asks.the-variants.{One, Error}
 use Rattle.parameters.specs.Parameters.{Kind, bare, number, switch, hex, address, unknown, c01, c02, c03, c04, readAs, isEmpty, valueIs, refusedBy, within30, parameterOf}
 use Rattle.words.specs.Words.{upperAll}
-use Rattle.command.specs.Words.{Command, commandOf, askedWith, askedBy}
-use Rattle.command.specs.Lines.{hasSum, rightSum, summedPart, wordOf, parameterText, asksOf, heardAs, heardOf}
-use Rattle.protocol.specs.Verdicts.{Stage, firstOf, bodyOf, commandIn, givenIn, isUnknown, isAbsent, isMalformed, isBeyond, valueOf, stages}
+use Rattle.asks.specs.Words.{Command, commandOf, askedWith, askedBy}
+use Rattle.asks.specs.Asked.{wordOf, parameterText, asksOf}
+use Rattle.command.specs.Lines.{hasSum, rightSum, summedPart, heardAs, heardOf}
+use Rattle.protocol.specs.Verdicts.{Stage, firstOf, commandIn, givenIn, isUnknown, isAbsent, isMalformed, isBeyond, valueOf, stages}
 
 module _ (k : Command) where
   -- a parameter that is needed: absent, malformed, or read

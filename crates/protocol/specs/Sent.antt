@@ -4,10 +4,10 @@ use mathlib.Core.List.{List, []}
 use mathlib.Core.Bool.{Bool}
 use Rattle.supply.specs.declared.Supply.{Supply}
 use Rattle.supply.specs.declared.Act.the-variants.{Obey}
-use Rattle.command.specs.declared.Asks.{Asks}
-use Rattle.command.specs.declared.Asks.the-variants.{Select, BadSelect, Everyone, Nobody, One, Error}
+use Rattle.asks.specs.declared.Asks.{Asks}
+use Rattle.asks.specs.declared.Asks.the-variants.{Select, BadSelect, Everyone, Nobody, One, Error}
 use Rattle.acts.specs.Acts.{performed}
-use Rattle.reply.specs.Texts.{codeText, replyOf}
+use Rattle.texts.specs.Texts.{codeText, replyOf}
 use Rattle.reply.specs.Obeying.{saidOf}
 
 -- what a line does to a supply that takes it; a global line is the order that it stands for

@@ -15,7 +15,7 @@ use Rattle.supply.specs.declared.Act.the-variants.{Obey, Ask}
 use Rattle.settings.specs.Settings.{settingOf}
 use Rattle.settings.specs.Lawful.{Lawful}
 use Rattle.acts.specs.Acts.{codeOf, performed}
-use Rattle.command.specs.declared.Asks.the-variants.{One}
+use Rattle.asks.specs.declared.Asks.the-variants.{One}
 use Rattle.command.specs.Lines.{heardAs, heardOf}
 use Rattle.protocol.specs.Sent.{repliedTo}
 

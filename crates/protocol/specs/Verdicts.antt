@@ -7,11 +7,12 @@ use Rattle.base.specs.Choice.{pick}
 use Rattle.words.specs.Words.{upperAll}
 use Rattle.supply.specs.declared.Act.the-variants.{Nothing}
 use Rattle.supply.specs.State.{c05}
-use Rattle.command.specs.declared.Asks.{Asks}
-use Rattle.command.specs.declared.Asks.the-variants.{One, Error}
+use Rattle.asks.specs.declared.Asks.{Asks}
+use Rattle.asks.specs.declared.Asks.the-variants.{One, Error}
 use Rattle.parameters.specs.Parameters.{Kind, bare, number, switch, hex, address, unknown, c01, c02, c03, c04, readAs, isEmpty}
-use Rattle.command.specs.Words.{Command, commandOf}
-use Rattle.command.specs.Lines.{hasSum, rightSum, summedPart, wordOf, parameterText}
+use Rattle.asks.specs.Words.{Command, commandOf}
+use Rattle.asks.specs.Asked.{wordOf, parameterText}
+use Rattle.command.specs.Lines.{hasSum, rightSum, summedPart}
 
 -- a stage: whether it applies, and what the line then is
 abbrev pub Stage : Type 0

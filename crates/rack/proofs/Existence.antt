@@ -2,7 +2,7 @@
 use Prim.Native.Nat.{ℕ, _≤_}
 use mathlib.Core.Path.{_≡_, refl, sym, ap, subst, _∙_}
 use mathlib.Core.List.{List, [], _∷_, _++_}
-use mathlib.Core.Bool.{true, false, true≢false}
+use mathlib.Core.Bool.{true, true≢false}
 use native.Mathlib.Omega.{arith}
 use lib.ListN.{length, drop, replicate, length-replicate}
 use lib.Seq.{take-all}
@@ -16,8 +16,8 @@ use Rattle.supply.specs.declared.Supply.{Supply}
 use Rattle.plain.specs.Plain.{plainSupply}
 use Rattle.slots.specs.declared.Rack.{Rack}
 use Rattle.slots.specs.View.{viewOf}
-use Rattle.rack.specs.declared.Answer.{Answer}
-use Rattle.rack.specs.Calls.{refusal, Answered, callAs}
+use Rattle.calls.specs.declared.Answer.{Answer}
+use Rattle.calls.specs.Calls.{refusal, Answered, callAs}
 use Rattle.fitting.specs.Fitting.{goodList}
 use Rattle.rack.specs.Demand3.{Through, Leads, Run, setupOf}
 

@@ -1,18 +1,17 @@
 -- Demand 3 of the code: each call's equation, chained from the fitting list on, makes the rack the one of the definitions.
 use Prim.Native.Nat.{ℕ, _≤_}
-use mathlib.Core.Path.{_≡_, refl, sym, ap, subst, _∙_}
+use mathlib.Core.Path.{_≡_, sym, ap, subst, _∙_}
 use mathlib.Core.List.{List, [], _∷_}
-use lib.ListN.{length, getD}
-use Rattle.wire.specs.Wire.{Call, parse}
+use Rattle.wire.specs.Wire.{Call}
 use Rattle.wire.specs.Rack.{callOf, after, runFrom, run, slot}
 use Rattle.wire.specs.Rack as wire
 use Rattle.supply.specs.declared.Supply.{Supply}
 use Rattle.plain.specs.Plain.{plainSupply}
 use Rattle.plain.proofs.Isolation.{isolated}
 use Rattle.slots.specs.declared.Rack.{Rack}
-use Rattle.rack.specs.declared.Answer.{Answer}
+use Rattle.calls.specs.declared.Answer.{Answer}
 use Rattle.slots.specs.View.{viewOf}
-use Rattle.rack.specs.Calls.{refusal, Answered, callAs}
+use Rattle.calls.specs.Calls.{Answered, callAs}
 use Rattle.rack.specs.Demand3.{Leads, Run, setupOf, supplyAt, Isolated}
 
 -- the line is short, and the view is this rack

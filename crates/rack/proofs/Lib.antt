@@ -1,4 +1,3 @@
-pub mod Calls
 pub mod Fitting
 pub mod Isolation
 pub mod Existence

@@ -16,9 +16,9 @@ use Rattle.settings.specs.Lawful.{Lawful}
 use Rattle.acts.specs.Releases.{Trip, isSet}
 use Rattle.plain.specs.Plain.{plainSupply, grammar, trips, stepOf, releasesOf}
 use Rattle.slots.specs.declared.Rack.{Rack}
-use Rattle.rack.specs.declared.Answer.{Answer}
+use Rattle.calls.specs.declared.Answer.{Answer}
 use Rattle.rack.specs.declared.Fitted.{Fitted}
-use Rattle.rack.specs.Calls.{CallDoes}
+use Rattle.calls.specs.Calls.{CallDoes}
 use Rattle.fitting.specs.Fitting.{goodList}
 use Rattle.rack.specs.Fit.{FitDoes}
 

@@ -1,3 +1,2 @@
-pub mod Calls
 pub mod Fit
 pub mod Demand3

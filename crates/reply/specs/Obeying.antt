@@ -5,8 +5,8 @@ use Rattle.supply.specs.declared.Supply.{Supply}
 use Rattle.supply.specs.declared.Act.{Act}
 use Rattle.supply.specs.declared.Act.the-variants.{Lines, Sample, Press, Turn, Obey, Ask, Nothing}
 use Rattle.acts.specs.Acts.{codeOf}
-use Rattle.acts.specs.Answers.{answerOf}
-use Rattle.reply.specs.Texts.{codeText, answerText}
+use Rattle.answers.specs.Answers.{answerOf}
+use Rattle.texts.specs.Texts.{codeText, answerText}
 
 -- a query is answered from the supply as it stands before; anything else is OK or its code
 unfoldable pub saidOf : ℕ → Supply → Act → List ℕ

@@ -1,7 +1,7 @@
 -- What each kind of byte does to the line of the code, as the definitions see it.
 use mathlib.Core.Path.{_≡_, refl}
 use mathlib.Core.Bool.{Bool, true, false}
-use mathlib.Core.List.{List, [], _∷_, _++_}
+use mathlib.Core.List.{[], _∷_, _++_}
 use Prim.Native.Nat.{ℕ, _+_, _-_, _≤_, _<_}
 use native.Mathlib.Omega.{arith}
 use native.Mathlib.Numerals.{add-one}
@@ -10,10 +10,11 @@ use lib.ListN.{length, take, set}
 use lib.Seq.{length-take-le, take-take, take-suc-set}
 use borrow.Author.Tests.{eq-eqb, ne-eqb, lt-ltb, le-ltb}
 use Rattle.base.specs.Choice.{pick}
+use Rattle.base.proofs.Choice.{pick-keeps}
 use Rattle.wire.specs.declared.Setup.{Setup}
 use Rattle.wire.specs.Wire.{Wire, Grammar, quiet, byteOn}
 use Rattle.serial.specs.declared.Line.{Line}
-use Rattle.serial.specs.View.{wireOf, charOn, Typed}
+use Rattle.serial.specs.View.{charOn, Typed}
 
 module _ (l : Line) (b : ℕ) (wide : length (l .kept) ≡ 64) (h : l .count ≤ 64) where
   pub typed-lf : b ≡ 10 → Typed l b l
@@ -45,6 +46,15 @@ module _ (l : Line) (b : ℕ) (wide : length (l .kept) ≡ 64) (h : l .count ≤
   pub typed-full : (b ≡ 10 → ⊥) → (b ≡ 8 → ⊥) → 64 ≤ l .count → Typed l b (record { kept = l .kept; count = l .count; spoiled = true; selected = l .selected })
   unfolding charOn
   typed-full p q s = record { small = h; is = rw (ne-eqb b 10 p, ne-eqb b 8 q, length-take-le (l .count) (l .kept) (omega arith), le-ltb (l .count) 64 s) }
+
+-- what holds of the line before, and of each thing that such a byte can make of it, holds of the line after
+pub char-keeps : (P : Wire → Type 0) (w : Wire) (b : ℕ) → P w
+    → P (record { kept = take (length (w .kept) - 1) (w .kept); spoiled = w .spoiled; sel = w .sel })
+    → P (record { kept = w .kept ++ (b ∷ []); spoiled = w .spoiled; sel = w .sel })
+    → P (record { kept = w .kept; spoiled = true; sel = w .sel })
+    → P (charOn w b)
+unfolding charOn
+char-keeps P w b lf back add full = pick-keeps P (eqb b 10) _ _ lf (pick-keeps P (eqb b 8) _ _ back (pick-keeps P (ltb (length (w .kept)) 64) _ _ add full))
 
 -- a byte that is no CR, on the shared line: nothing is handed out
 pub char-on : (γ : Grammar) (u : Setup) (w : Wire) (b : ℕ) → eqb b 13 ≡ false → byteOn γ u w b ≡ quiet (charOn w b)

@@ -1,17 +1,12 @@
--- The line and the slots of the code, as the definitions of the shared line see them.
+-- The line of the code, as the definitions of the shared line see it.
 use Prim.Native.Nat.{ℕ, _-_, _≤_}
 use mathlib.Core.Path.{_≡_}
-use mathlib.Core.List.{List, [], _∷_, _++_}
-use mathlib.Core.Bool.{Bool, true, false}
+use mathlib.Core.List.{[], _∷_, _++_}
+use mathlib.Core.Bool.{true}
 use lib.Dec.{ltb, eqb}
 use lib.ListN.{length, take}
 use Rattle.base.specs.Choice.{pick}
-use Rattle.wire.specs.declared.Setup.{Setup}
-use Rattle.wire.specs.Wire.{Wire, modelAt, fitted}
-use Rattle.supply.specs.declared.Supply.{Supply}
-use Rattle.supply.specs.declared.Order.{Order}
-use Rattle.supply.specs.declared.Act.the-variants.{Obey}
-use Rattle.acts.specs.Acts.{performed}
+use Rattle.wire.specs.Wire.{Wire}
 use Rattle.serial.specs.declared.Line.{Line}
 
 -- the kept characters are the first `count` of the array; what stands behind them is not looked at
@@ -30,7 +25,3 @@ charOn w b =
 pub record Typed (l : Line) (b : ℕ) (r : Line) : Type 0 where
   pub small : r .count ≤ 64
   pub is : wireOf r ≡ charOn (wireOf l) b
-
--- an order to every fitted slot, each supply judging for itself
-abbrev pub orderedAt : Setup → Order → ℕ → Supply → Supply
-orderedAt u o a s = pick (fitted u a) (performed (modelAt u a) s (Obey o)) s

@@ -1,17 +1,12 @@
-// The serial line in code: its kept characters byte by byte, what a line asks at its CR, and an order to all slots.
+// The serial line in code: its kept characters byte by byte, what a line asks at its CR, and the model at an address.
 ghost use mathlib.Core.Path.{_≡_};
 ghost use mathlib.Core.Bool.{true, false};
 ghost use Prim.Native.Nat.{_≤_};
-ghost use Rattle.wire.specs.Wire.{freshWire, modelAt, fitted, nobody};
-ghost use Rattle.base.specs.Lists.{eachTo};
-ghost use Rattle.acts.specs.Acts.{performed};
+ghost use Rattle.wire.specs.Wire.{freshWire, modelAt, fitted};
 ghost use Rattle.command.specs.Lines.{heardOf};
-ghost use Rattle.serial.specs.View.{wireOf, Typed, orderedAt};
+ghost use Rattle.serial.specs.View.{wireOf, Typed};
 ghost use lib.ListN.{take};
 use command::Heard;
-use supply::Act;
-use supply::Order;
-use supply::Supply;
 use wire::Setup;
 
 // The line: kept characters and their count, whether it is spoiled, and the slot selected, 31 for nobody.
@@ -97,30 +92,4 @@ pub fn has_supply(u: Setup, a: u8) -> bool
     ensures { λ r. ⌜ r ≡ fitted u a ⌝ }
 {
     model_at(u, a) != 255
-}
-
-fn ordered_at(u: Setup, o: Order, a: u8, s: Supply) -> Supply
-    ensures { λ r. ⌜ r ≡ orderedAt u o a s ⌝ }
-{
-    if has_supply(u, a) {
-        let done = acts::perform(model_at(u, a), s, Act::Obey(o));
-        let after = done.supply;
-        after
-    } else {
-        s
-    }
-}
-
-// An order to every fitted slot.
-pub fn order_all(u: Setup, slots: [Supply; 31], o: Order) -> [Supply; 31]
-    ensures { λ r. ⌜ r ≡ eachTo (orderedAt u o) 31 slots ⌝ }
-{
-    let mut next = slots;
-    let mut i: u8 = 0;
-    while i < 31 {
-        let k = i as usize;
-        next[k] = ordered_at(u, o, i, next[k]);
-        i += 1;
-    }
-    next
 }

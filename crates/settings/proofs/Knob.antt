@@ -7,12 +7,11 @@ use native.Mathlib.Omega.{arith}
 use lib.Dec.{ltb, lit<}
 use lib.IntN.{ℤ, pos, negsuc, _+ℤ_, _-ℤ_, natAbs}
 use borrow.Author.Tests.{ltb-true, ltb-false}
-use Rattle.models.specs.Models.{limitsOf}
 use Rattle.supply.specs.declared.Supply.{Supply}
 use Rattle.supply.specs.declared.Target.{Target}
 use Rattle.supply.specs.declared.Target.the-variants.{Pv, Pc, Ovp, Uvl}
-use Rattle.settings.specs.Settings.{settingOf, withSetting, leastOf, mostOf, signedOf, natPart, nearestIn, stepped}
-use Rattle.settings.specs.Lawful.{Within, Lawful, Admissible, Nearest}
+use Rattle.settings.specs.Settings.{settingOf, withSetting, leastOf, mostOf, signedOf, nearestIn, stepped}
+use Rattle.settings.specs.Lawful.{Lawful, Admissible, Nearest}
 
 -- a quotient rounded up is at most x just where the product says so
 module _ (q n x : ℕ) (some : 0 < q) where

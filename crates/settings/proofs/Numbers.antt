@@ -4,9 +4,8 @@ use mathlib.Core.Bool.{Bool, true, false, cond}
 use Prim.Native.Nat.{ℕ, suc, _+_, _-_, _^_, _<_, _≤_}
 use native.Mathlib.Omega.{arith}
 use lib.Dec.{ltb}
-use lib.IntN.{ℤ, pos, negsuc, _+ℤ_}
-use borrow.Author.Tests.{ltb-true, ltb-false, le-ltb, lt-ltb}
-use Rattle.models.specs.Models.{limitsOf}
+use lib.IntN.{pos, negsuc, _+ℤ_}
+use borrow.Author.Tests.{ltb-true, ltb-false, le-ltb}
 use Rattle.models.proofs.Rules.{volts-lt, amps-lt, ovp-most-lt, uvl-most-lt}
 use Rattle.supply.specs.declared.Supply.{Supply}
 use Rattle.supply.specs.declared.Target.{Target}

@@ -1,13 +1,12 @@
 -- Room for replies: what a line's end and what a character draw.
 use Prim.Native.Nat.{ℕ, _+_, _-_, _*_, _^_, _≤_, _<_}
-use mathlib.Core.Path.{_≡_, refl, sym, ap, _∙_}
-use mathlib.Core.List.{List, [], _∷_, _++_, append-nil}
+use mathlib.Core.Path.{_≡_, refl, sym}
+use mathlib.Core.List.{List, [], _∷_, append-nil}
 use mathlib.Core.Bool.{Bool, true, false}
 use native.Mathlib.Omega.{arith}
-use lib.Dec.{eqb, ltb}
-use lib.ListN.{length, getD, take, length-append, length-take}
+use lib.ListN.{length, getD, length-append, length-take}
 use borrow.Author.Tests.{ne-eqb}
-use Rattle.base.specs.Choice.{pick, bit}
+use Rattle.base.specs.Choice.{bit}
 use Rattle.wire.specs.Wire.{Class, Wire, line, one, say, modelAt, fitted, select, faulty, global, other, byClass, byteOn}
 use Rattle.wire.specs.Machine.{given}
 use Rattle.wire.specs.Rack.{replies}
@@ -18,12 +17,11 @@ use Rattle.supply.specs.State.{fresh}
 use Rattle.settings.specs.Settings.{settingOf}
 use Rattle.command.specs.Lines.{heardOf}
 use Rattle.protocol.specs.Sent.{repliedTo}
-use Rattle.protocol.specs.SentBack.{Sized, Room}
+use Rattle.protocol.specs.SentBack.{Sized}
 use Rattle.protocol.proofs.Room.{room}
 use Rattle.serial.specs.View.{wireOf, charOn}
-use Rattle.serial.proofs.Chars.{char-on}
+use Rattle.serial.proofs.Chars.{char-on, char-keeps}
 use Rattle.plain.specs.Plain.{plainSupply, grammar, replyTo, classOf}
-use Rattle.plain.specs.Classes.{Classes}
 use Rattle.plain.proofs.Classes.{classes}
 use Rattle.slots.specs.declared.Rack.{Rack}
 use Rattle.slots.specs.View.{Fair, endedBy}
@@ -87,17 +85,15 @@ module _ (r : Rack) (s : Supply) (z : Sized s) (here : fitted (r .setup) (r .lin
 
 -- a byte that is no CR
 pub char-fair : (r : Rack) (x : ℕ) → (x ≡ 13 → ⊥) → Fair r (byteOn grammar (r .setup) (wireOf (r .line)) x) 1
-unfolding charOn
-char-fair r x n = rw (char-on grammar (r .setup) (wireOf (r .line)) x (ne-eqb x 13 n)) (record { fair = omega (arith, on-char (wireOf (r .line)) (eqb x 10) (eqb x 8) (ltb (length (wireOf (r .line) .kept)) 64)) })
+char-fair r x n = rw (char-on grammar (r .setup) (wireOf (r .line)) x (ne-eqb x 13 n)) (record { fair = omega (arith, on-char (wireOf (r .line))) })
   where
-    on-char : (w : Wire) (lf bs room : Bool) →
-        3 * length (pick lf w (pick bs (record { kept = take (length (w .kept) - 1) (w .kept); spoiled = w .spoiled; sel = w .sel }) (pick room (record { kept = w .kept ++ (x ∷ []); spoiled = w .spoiled; sel = w .sel }) (record { kept = w .kept; spoiled = true; sel = w .sel }))) .kept)
-        + bit (pick lf w (pick bs (record { kept = take (length (w .kept) - 1) (w .kept); spoiled = w .spoiled; sel = w .sel }) (pick room (record { kept = w .kept ++ (x ∷ []); spoiled = w .spoiled; sel = w .sel }) (record { kept = w .kept; spoiled = true; sel = w .sel }))) .spoiled)
-        ≤ 3 * length (w .kept) + bit (w .spoiled) + 3
-    on-char w true bs room = omega arith
-    on-char w false true room = omega (arith, length-take (length (w .kept) - 1) (w .kept))
-    on-char w false false true = omega (arith, length-append (w .kept) (x ∷ []))
-    on-char w false false false = omega arith
+    on-char : (w : Wire) → 3 * length (charOn w x .kept) + bit (charOn w x .spoiled) ≤ 3 * length (w .kept) + bit (w .spoiled) + 3
+    on-char w =
+        char-keeps (λ v. 3 * length (v .kept) + bit (v .spoiled) ≤ 3 * length (w .kept) + bit (w .spoiled) + 3) w x
+        (omega arith)
+        (omega (arith, length-take (length (w .kept) - 1) (w .kept)))
+        (omega (arith, length-append (w .kept) (x ∷ [])))
+        (omega arith)
 
 pub cr-fair : (r : Rack) (x : ℕ) → x ≡ 13 → Fair r (endedBy r) 1 → Fair r (byteOn grammar (r .setup) (wireOf (r .line)) x) 1
 unfolding byteOn

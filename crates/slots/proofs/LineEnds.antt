@@ -1,13 +1,13 @@
 -- A line at its CR, of the line and one supply: what holds in a rack holds whatever the other slots are.
 use Prim.Native.Nat.{ℕ}
 use mathlib.Core.Path.{_≡_, refl, sym, ap, _∙_}
-use mathlib.Core.Bool.{Bool, true, false, true≢false, false≢true}
+use mathlib.Core.Bool.{Bool, true, false, true≢false}
 use mathlib.Core.List.{List, []}
 use lib.ListN.{getD, set, take}
 use Rattle.base.proofs.Lists.{set-same}
 use Rattle.base.specs.Put.{Put}
 use Rattle.wire.specs.declared.Setup.{Setup}
-use Rattle.wire.specs.Wire.{Class, modelAt, fitted, nobody, select, faulty, global, other, byClass}
+use Rattle.wire.specs.Wire.{Class, modelAt, fitted, nobody, select, faulty, other, byClass}
 use Rattle.supply.specs.declared.Supply.{Supply}
 use Rattle.supply.specs.declared.Order.{Order}
 use Rattle.supply.specs.declared.Order.the-variants.{Cls}
@@ -15,9 +15,9 @@ use Rattle.supply.specs.declared.Act.{Act}
 use Rattle.supply.specs.State.{fresh}
 use Rattle.acts.specs.Acts.{performed}
 use Rattle.command.specs.declared.Heard.{Heard}
-use Rattle.command.specs.declared.Asks.the-variants.{Select, BadSelect, Everyone, Nobody, One, Error}
+use Rattle.asks.specs.declared.Asks.the-variants.{Everyone, One, Error}
 use Rattle.command.specs.Lines.{heardAs, heardOf}
-use Rattle.reply.specs.Texts.{codeText, replyOf}
+use Rattle.texts.specs.Texts.{codeText, replyOf}
 use Rattle.reply.specs.Obeying.{saidOf}
 use Rattle.serial.specs.declared.Line.{Line}
 use Rattle.serial.specs.View.{wireOf}

@@ -1,5 +1,5 @@
 -- One step after another: what two steps leave and say is what both deliver.
-use Prim.Native.Nat.{ℕ, _+_, _*_, _≤_, _<_}
+use Prim.Native.Nat.{ℕ, _+_, _≤_, _<_}
 use mathlib.Core.Path.{_≡_, refl, sym, ap, _∙_}
 use mathlib.Core.List.{List, [], _∷_, _++_, map, map-append, foldl}
 use native.Mathlib.Numerals.{add-one}

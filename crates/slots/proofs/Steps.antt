@@ -1,16 +1,16 @@
 -- Each way of a line's end, as the code has it, is what the definitions say of its class.
 use Prim.Native.Nat.{ℕ, _≤_}
 use mathlib.Core.Path.{_≡_, refl, sym, ap, _∙_}
-use mathlib.Core.List.{List, [], _∷_, _++_, append-nil}
+use mathlib.Core.List.{List, [], append-nil}
 use mathlib.Core.Bool.{Bool, true, false}
-use lib.ListN.{length, getD, set, take}
+use lib.ListN.{length, getD, set}
 use lib.Seq.{set-getD}
 use Rattle.base.specs.Choice.{pick}
 use Rattle.base.specs.Put.{Put}
 use Rattle.base.proofs.Put.{put-none}
 use Rattle.wire.specs.declared.Setup.{Setup}
-use Rattle.wire.specs.Wire.{Wire, modelAt, fitted, nobody, Entry, line, select, faulty, global, other, one, all, say, byClass, byteOn}
-use Rattle.wire.specs.Rack.{deliver, moved, replies}
+use Rattle.wire.specs.Wire.{Wire, modelAt, fitted, nobody, line, select, faulty, global, other, all, byClass, byteOn}
+use Rattle.wire.specs.Rack.{deliver}
 use Rattle.base.specs.Lists.{eachTo}
 use Rattle.wire.proofs.ForCode.{deliver-one, deliver-all, deliver-say}
 use Rattle.supply.specs.declared.Supply.{Supply}
@@ -18,20 +18,21 @@ use Rattle.supply.specs.declared.Order.{Order}
 use Rattle.supply.specs.declared.Act.{Act}
 use Rattle.supply.specs.State.{fresh}
 use Rattle.acts.specs.Acts.{performed}
-use Rattle.command.specs.declared.Asks.{Asks}
-use Rattle.command.specs.declared.Asks.the-variants.{Select, BadSelect, Everyone, Nobody, One, Error}
+use Rattle.asks.specs.declared.Asks.{Asks}
+use Rattle.asks.specs.declared.Asks.the-variants.{Everyone, One, Error}
 use Rattle.command.specs.declared.Heard.{Heard}
 use Rattle.command.specs.Lines.{heardAs, heardOf}
-use Rattle.reply.specs.Texts.{codeText, replyOf}
+use Rattle.texts.specs.Texts.{codeText, replyOf}
 use Rattle.reply.specs.Obeying.{saidOf}
 use Rattle.protocol.specs.Sent.{obeyed, repliedTo}
 use Rattle.serial.specs.declared.Line.{Line}
-use Rattle.serial.specs.View.{wireOf, orderedAt, Typed}
+use Rattle.serial.specs.View.{wireOf, Typed}
+use Rattle.globals.specs.Globals.{orderedAt}
 use Rattle.serial.proofs.Chars.{char-on}
 use borrow.Author.Tests.{ne-eqb}
 use Rattle.plain.specs.Plain.{plainSupply, grammar, stepOf, replyTo, classBy, classOf}
 use Rattle.slots.specs.declared.Rack.{Rack}
-use Rattle.slots.specs.View.{viewOf, rackIs, Moves}
+use Rattle.slots.specs.View.{rackIs, Moves}
 
 -- the line after its CR, with a slot selected
 pub record Cleared (l : Line) (sel : ℕ) : Type 0 where

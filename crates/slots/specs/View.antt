@@ -14,7 +14,7 @@ use Rattle.supply.specs.declared.Supply.{Supply}
 use Rattle.supply.specs.declared.Order.{Order}
 use Rattle.supply.specs.declared.Act.{Act}
 use Rattle.supply.specs.State.{fresh}
-use Rattle.command.specs.declared.Asks.the-variants.{Everyone, One}
+use Rattle.asks.specs.declared.Asks.the-variants.{Everyone, One}
 use Rattle.command.specs.Lines.{heardAs, heardOf}
 use Rattle.serial.specs.declared.Line.{Line}
 use Rattle.serial.specs.View.{wireOf}

@@ -3,10 +3,10 @@ ghost use mathlib.Core.Path.{_≡_};
 ghost use mathlib.Core.Bool.{false};
 ghost use Rattle.wire.specs.Wire.{select, faulty};
 ghost use Rattle.supply.specs.declared.Order.the-variants.{Cls};
-ghost use Rattle.reply.specs.Texts.{codeText, replyOf};
+ghost use Rattle.texts.specs.Texts.{codeText, replyOf};
 ghost use Rattle.protocol.specs.SentBack.{Sized};
 ghost use Rattle.slots.specs.View.{Ends, Asked, EndsLine};
-use command::Asks;
+use asks::Asks;
 use serial::Line;
 use supply::Act;
 use supply::Order;
@@ -63,7 +63,7 @@ fn select_slot(
     ensures { λ e. ⌜ (e .all ≡ false) × Ends u l s (select a (replyOf summed (codeText 0))) e (now (buf .entry)) at (now (buf .exit)) ⌝ }
 {
     if serial::has_supply(u, a) {
-        let next = reply::put_code_reply(buf, at, 0, summed);
+        let next = texts::put_code_reply(buf, at, 0, summed);
         one_ended(serial::cleared(l, a), s, next)
     } else {
         one_ended(serial::cleared(l, 31), s, at)
@@ -85,7 +85,7 @@ fn say_code(
     let selected = l.selected;
     let line = serial::cleared(l, selected);
     if serial::has_supply(u, selected) {
-        let next = reply::put_code_reply(buf, at, code, summed);
+        let next = texts::put_code_reply(buf, at, code, summed);
         one_ended(line, s, next)
     } else {
         one_ended(line, s, at)

@@ -1,12 +1,11 @@
 -- FEVE bit by bit: what an event adds to it, and that an event in which no fault bit rises adds nothing.
-use mathlib.Core.Path.{_≡_, refl, sym, ap, _∙_}
+use mathlib.Core.Path.{_≡_, refl, ap, _∙_}
 use mathlib.Core.Bool.{Bool, true, false, not, _&&_, _||_}
-use Prim.Native.Nat.{ℕ, zero, suc, _+_, _-_, _*_, _/_, _%_, _^_, _<_, _≤_}
+use Prim.Native.Nat.{ℕ, zero, suc, _+_, _-_, _*_, _/_, _%_, _^_, _<_}
 use native.Mathlib.Nat.{lt-of-le-of-lt}
 use native.Mathlib.Omega.{arith}
 use lib.Dec.{eqb, lit<}
-use lib.ListN.{getD}
-use lib.Bits.{bitAnd, bitOr, and-le-r, or-lt, and-zero-l, or-zero-r}
+use lib.Bits.{bitAnd, and-le-r, or-lt, and-zero-l, or-zero-r}
 use Rattle.base.specs.Choice.{bit}
 use Rattle.base.specs.Lists.{tabulate}
 use Rattle.base.specs.Bits.{bitAt}

@@ -1,3 +1,1 @@
-pub mod Works
 pub mod Turns
-pub mod Cuts

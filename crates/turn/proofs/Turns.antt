@@ -1,8 +1,8 @@
 -- What `feed` takes and what `call` does with the field behind it are calls in turn; and one part of a turn after another.
 use Prim.Native.Nat.{ℕ, _+_, _-_, _≤_, _<_, min}
 use mathlib.Core.Path.{_≡_, refl, sym, ap, subst, _∙_}
-use mathlib.Core.Bool.{Bool, true, false, true≢false}
-use mathlib.Core.List.{List, [], _∷_, _++_, append-nil}
+use mathlib.Core.Bool.{Bool, true, true≢false}
+use mathlib.Core.List.{List, [], _++_, append-nil}
 use native.Mathlib.Omega.{arith}
 use lib.Dec.{ltb}
 use lib.ListN.{length, take, drop, length-drop, length-append}
@@ -10,20 +10,21 @@ use lib.Seq.{drop-drop, take-append-seam}
 use borrow.Author.Tests.{lt-ltb, le-ltb}
 use Rattle.base.specs.Put.{Put}
 use Rattle.base.proofs.Put.{put-none, put-then, put-whole, put-length}
-use Rattle.wire.specs.Wire.{Call, parse}
+use Rattle.wire.specs.Wire.{parse}
 use Rattle.wire.specs.Rack.{refused, done, callOf}
 use Rattle.wire.specs.Rack as wire
 use Rattle.supply.specs.declared.Supply.{Supply}
 use Rattle.plain.specs.Plain.{plainSupply, leastReply}
 use Rattle.slots.specs.declared.Rack.{Rack}
 use Rattle.slots.specs.View.{viewOf}
-use Rattle.rack.specs.declared.Answer.{Answer}
-use Rattle.rack.specs.Calls.{refusal, Accepted, Answered, callAs, CallDoes}
+use Rattle.calls.specs.declared.Answer.{Answer}
+use Rattle.calls.specs.Calls.{Answered, CallDoes}
 use Rattle.feed.specs.declared.Fed.{Fed}
-use Rattle.feed.specs.Feed.{fieldAt, Works, none, more, FeedDoes}
+use Rattle.step.specs.Taken.{fieldAt}
+use Rattle.feed.specs.Feed.{none, more, FeedDoes}
+use Rattle.feed.proofs.Works.{accepted-uses, works-spent, works-used, works-then}
 use Rattle.turn.specs.declared.Worked.{Worked}
 use Rattle.turn.specs.Turn.{full, FieldsDo, WorkDoes}
-use Rattle.turn.proofs.Works.{accepted-uses, works-spent, works-used, works-then}
 
 abbrev pub workedAs : Rack → ℕ → ℕ → ℕ → Bool → Worked
 workedAs r used next code m = record { rack = r; used = used; next = next; code = code; more = m }

@@ -9,7 +9,8 @@ use Rattle.wire.specs.Rack.{refused, callOf}
 use Rattle.plain.specs.Plain.{plainSupply}
 use Rattle.slots.specs.declared.Rack.{Rack}
 use Rattle.slots.specs.View.{viewOf}
-use Rattle.feed.specs.Feed.{fieldAt, Works}
+use Rattle.step.specs.Taken.{fieldAt}
+use Rattle.feed.specs.Feed.{Works}
 use Rattle.turn.specs.declared.Worked.{Worked}
 
 -- once the replies that wait reach this index, they are written before more fields are worked

@@ -13,7 +13,7 @@ fn line(buf: &mut [u8], n: usize) {
 fn put_read(buf: &mut [u8], at: usize, s: &[u8]) -> usize {
     let n = figures::read_number(s, 4);
     if n.good {
-        figures::put_figure(buf, at, 4, n.value)
+        prints::put_figure(buf, at, 4, n.value)
     } else {
         base::put_text(buf, at, b"none")
     }
@@ -40,11 +40,11 @@ fn summed(s: &[u8]) {
 // A model, and its volt and ampere readings at the highest count.
 fn readings(model: u8) {
     let mut buf = [0u8; 64];
-    let p = figures::put_figure(&mut buf, 0, 0, model as u64);
+    let p = prints::put_figure(&mut buf, 0, 0, model as u64);
     let q = base::put_byte(&mut buf, p, b' ');
-    let r = figures::put_figure(&mut buf, q, 4, models::volt_reading(model, 65535));
+    let r = prints::put_figure(&mut buf, q, 4, models::volt_reading(model, 65535));
     let t = base::put_byte(&mut buf, r, b' ');
-    let u = figures::put_figure(&mut buf, t, 3, models::amp_reading(model, 65535));
+    let u = prints::put_figure(&mut buf, t, 3, models::amp_reading(model, 65535));
     line(&mut buf, u);
 }
 

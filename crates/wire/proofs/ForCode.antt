@@ -2,15 +2,13 @@
 use mathlib.Core.Path.{_≡_, refl, sym, ap, _∙_}
 use mathlib.Core.Bool.{Bool, true, false}
 use mathlib.Core.List.{List, [], _∷_, _++_, foldl, append-assoc, append-nil}
-use Prim.Native.Nat.{ℕ, zero, suc, _+_, _≤_, _<_}
-use native.Mathlib.Numerals.{add-one}
-use native.Mathlib.Nat.{le-of-suc-le-suc, not-suc-le-zero}
+use Prim.Native.Nat.{ℕ, _≤_, _<_}
 use lib.Dec.{eqb}
 use lib.ListN.{length, getD, set, length-set, List·getD-eq-default}
-use lib.Seq.{ext-getD, set-getD, getD-set-same, getD-set-other}
+use lib.Seq.{ext-getD, getD-set-same, getD-set-other}
 use borrow.Author.Tests.{eqb-true, eqb-false}
 use Rattle.base.specs.Choice.{pick}
-use Rattle.base.specs.Lists.{tabulate, eachTo}
+use Rattle.base.specs.Lists.{eachTo}
 use Rattle.base.proofs.Lists.{getD-any, length-tabulate, getD-tabulate, tabulate-same, eachTo-all}
 use Rattle.wire.specs.Wire.{Entry, Delivery, one, all, say, Item, event, Grammar, modelAt, fitted, Wire, Sent, followed, byteOn, itemOn, scan}
 use Rattle.wire.specs.Rack.{Plain, Rack, next, stateAt, deliver, replies, moved}

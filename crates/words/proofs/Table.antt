@@ -10,7 +10,7 @@ use lib.Dec.{eqb, leb, ltb, lit<}
 use lib.Pow.{areBytes}
 use lib.ListN.{length, getD, length-map, List·getD-map}
 use lib.Seq.{ext-getD}
-use borrow.Author.Tests.{ne-eqb, eq-eqb, eqb-true, ltb-true, ltb-false, leb-true}
+use borrow.Author.Tests.{ne-eqb, eq-eqb, eqb-true, ltb-true, leb-true}
 use Rattle.base.specs.Choice.{pick}
 use Rattle.base.proofs.Choice.{and-both}
 use Rattle.words.specs.Words.{upper, upperAll, packed, pack, wordNumber, sameWord, Row, findWord, findNumber}

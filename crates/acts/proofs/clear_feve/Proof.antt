@@ -1,7 +1,6 @@
 -- `clear_feve` meets its contract.
 use Rattle.base.proofs.Choice.{pick-true, pick-false}
-use mathlib.Core.Path.{sym, _∙_}
-use borrow.Author.Needs.{needs}
+use mathlib.Core.Path.{sym}
 use Rattle.acts.proofs.clear_feve.Statement.{statement}
 use Rattle.acts.proofs.clear_feve.Tie as tie
 use Rattle.acts.proofs.clear_feve.Reads as reads

@@ -6,7 +6,7 @@ use Rattle.command.proofs.read_line.Statement.{statement}
 use Rattle.command.proofs.read_line.Tie as tie
 use Rattle.command.proofs.read_line.Reads as reads
 use Rattle.command.proofs.read_line.Lts as lts
-use Rattle.command.proofs.asks_of.Reads as asks-of-reads
+use Rattle.asks.proofs.asks_of.Reads as asks-of-reads
 use Rattle.command.proofs.heard_as.Reads as heard-as-reads
 use Rattle.command.proofs.right_sum.Reads as right-sum-reads
 use Rattle.base.proofs.part_to.Reads as part-to-reads

@@ -1,5 +1,5 @@
 -- `output_key` meets its contract.
-use Rattle.base.proofs.Choice.{pick-true, pick-false}
+use Rattle.base.proofs.Choice.{pick-true}
 use mathlib.Core.Path.{sym, _∙_}
 use borrow.Author.Needs.{needs}
 use Rattle.events.proofs.output_key.Statement.{statement}

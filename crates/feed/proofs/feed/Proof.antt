@@ -1,7 +1,7 @@
 -- `feed` meets its contract: after each turn the fields so far are taken, and the slots are those of the rack that they lead to.
 use borrow.Author.Needs.{needs}
 use native.Mathlib.Omega.{arith}
-use mathlib.Core.Path.{_≡_, refl, sym, ap, _∙_}
+use mathlib.Core.Path.{_≡_, refl, _∙_}
 use Prim.Native.Nat.{_≤_, _+_, _-_}
 use lib.ListN.{length, length-drop, length-map, length-set}
 use denote.Ref.{now}
@@ -21,8 +21,8 @@ use Rattle.feed.proofs.feed.Tie as tie
 use Rattle.feed.proofs.feed.Reads as reads
 use Rattle.feed.proofs.feed.Lts as lts
 use Rattle.base.proofs.part_from.Reads as part-from-reads
-use Rattle.feed.proofs.slot_reached.Reads as slot-reached-reads
-use Rattle.feed.proofs.take_field.Reads as take-field-reads
+use Rattle.step.proofs.slot_reached.Reads as slot-reached-reads
+use Rattle.step.proofs.take_field.Reads as take-field-reads
 
 abbrev Inv-loop : tie.InvT-loop
 Inv-loop s out₀ at full setup slots₀ line₀ used₀ next₀ going₀ out slots line used next going =

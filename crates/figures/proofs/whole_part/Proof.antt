@@ -3,7 +3,6 @@ use borrow.Author.Needs.{needs}
 use native.Mathlib.Nat.{div-eq-of-lt}
 use native.Mathlib.Omega.{arith}
 use mathlib.Core.Path.{sym}
-use Prim.Native.Nat.{_^_}
 use Rattle.figures.proofs.Laws.{pow-pos, pow-le}
 use Rattle.figures.proofs.whole_part.Statement.{statement}
 use Rattle.figures.proofs.whole_part.Tie as tie

@@ -1,9 +1,8 @@
 -- `all_allowed` meets its contract.
 use borrow.Author.Needs.{needs}
-use native.Mathlib.Omega.{arith}
 use Prim.Native.Nat.{_≤_, _-_}
-use mathlib.Core.Path.{_≡_, refl}
-use lib.ListN.{length, getD, take}
+use mathlib.Core.Path.{_≡_}
+use lib.ListN.{length, take}
 use Rattle.fitting.specs.Fitting.{allAllowed}
 use Rattle.fitting.proofs.Laws.{allowed-none, allowed-more, allowed-all}
 use Rattle.fitting.proofs.all_allowed.Statement.{statement}

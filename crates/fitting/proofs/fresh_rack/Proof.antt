@@ -1,9 +1,8 @@
 -- `fresh_rack` meets its contract.
 use borrow.Author.Needs.{needs}
-use native.Mathlib.Omega.{arith}
 use Prim.Native.Nat.{_≤_, _-_}
-use mathlib.Core.Path.{_≡_, refl}
-use lib.ListN.{length, getD, take}
+use mathlib.Core.Path.{_≡_}
+use lib.ListN.{length, getD}
 use Rattle.base.specs.Lists.{eachTo}
 use Rattle.supply.specs.State.{fresh}
 use Rattle.fitting.proofs.Laws.{fresh-again, made}

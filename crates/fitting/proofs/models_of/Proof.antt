@@ -1,9 +1,8 @@
 -- `models_of` meets its contract.
 use borrow.Author.Needs.{needs}
-use native.Mathlib.Omega.{arith}
 use Prim.Native.Nat.{_≤_, _-_}
-use mathlib.Core.Path.{_≡_, refl}
-use lib.ListN.{length, getD, take}
+use mathlib.Core.Path.{_≡_}
+use lib.ListN.{length, getD}
 use Rattle.base.specs.Lists.{eachTo}
 use Rattle.base.proofs.Lists.{eachTo-again}
 use Rattle.fitting.proofs.Laws.{models-are}

@@ -1,5 +1,5 @@
 -- `end_line` meets its contract.
-use mathlib.Core.Path.{_≡_, refl, sym, ap, _∙_}
+use mathlib.Core.Path.{refl, _∙_}
 use denote.Ref.{now}
 use Rattle.slots.proofs.LineEnds.{told-class}
 use Rattle.slots.proofs.Fairness.{ended-fair}

@@ -1,5 +1,5 @@
 -- `set_slot` meets its contract.
-use mathlib.Core.Path.{_≡_, sym, ap, _∙_}
+use mathlib.Core.Path.{_≡_, sym}
 use lib.ListN.{length}
 use native.Mathlib.Omega.{arith}
 use lib.Seq.{set-out}

@@ -1,8 +1,7 @@
 -- `take_serial` meets its contract: after i turns the first i bytes have been taken.
 use borrow.Author.Needs.{needs}
-use native.Mathlib.Omega.{arith}
 use Prim.Native.Nat.{_≤_, _-_}
-use mathlib.Core.Path.{_≡_, refl, _∙_}
+use mathlib.Core.Path.{_≡_, refl}
 use lib.ListN.{length, take}
 use Rattle.slots.specs.View.{Moves, Fair, scanned}
 use Rattle.slots.proofs.Runs.{moves-none, fair-none, moves-more, fair-more, scanned-all, fair-all}

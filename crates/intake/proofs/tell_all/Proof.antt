@@ -2,8 +2,7 @@
 use lib.ListN.{length-map}
 use lib.ListN.{length}
 use native.Mathlib.Omega.{arith}
-use mathlib.Core.Path.{_≡_, sym, ap, _∙_}
-use Prim.Native.Nat.{_≤_}
+use mathlib.Core.Path.{_≡_}
 use Rattle.slots.proofs.Steps.{told}
 use borrow.Author.Needs.{needs}
 use Rattle.intake.proofs.tell_all.Statement.{statement}
@@ -11,7 +10,7 @@ use Rattle.intake.proofs.tell_all.Tie as tie
 use Rattle.intake.proofs.tell_all.Reads as reads
 use Rattle.intake.proofs.tell_all.Lts as lts
 use Rattle.serial.proofs.cleared.Reads as cleared-reads
-use Rattle.serial.proofs.order_all.Reads as order-all-reads
+use Rattle.globals.proofs.order_all.Reads as order-all-reads
 
 order-all-requires : tie.Need-order-all-requires
 order-all-requires c κs = search needs

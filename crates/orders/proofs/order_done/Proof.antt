@@ -1,6 +1,6 @@
 -- `order_done` meets its contract.
 use Rattle.orders.specs.Orders.{ordered}
-use Rattle.orders.proofs.Accepted.{set-low}
+use Rattle.codes.proofs.Accepted.{set-low}
 use borrow.Author.Needs.{needs}
 use Rattle.orders.proofs.order_done.Statement.{statement}
 use Rattle.orders.proofs.order_done.Tie as tie

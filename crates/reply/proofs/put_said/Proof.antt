@@ -5,9 +5,9 @@ use Rattle.reply.proofs.put_said.Statement.{statement}
 use Rattle.reply.proofs.put_said.Tie as tie
 use Rattle.reply.proofs.put_said.Reads as reads
 use Rattle.reply.proofs.put_said.Lts as lts
-use Rattle.acts.proofs.answer_to.Reads as answer-to-reads
-use Rattle.reply.proofs.put_answer_reply.Reads as put-answer-reply-reads
-use Rattle.reply.proofs.put_code_reply.Reads as put-code-reply-reads
+use Rattle.answers.proofs.answer_to.Reads as answer-to-reads
+use Rattle.texts.proofs.put_answer_reply.Reads as put-answer-reply-reads
+use Rattle.texts.proofs.put_code_reply.Reads as put-code-reply-reads
 
 enum-known-a : tie.Need-enum-known-a
 enum-known-a c = search needs

@@ -1,5 +1,5 @@
 -- `model_at` meets its contract.
-use mathlib.Core.Path.{_≡_, sym, _∙_}
+use mathlib.Core.Path.{_≡_, sym}
 use lib.ListN.{length}
 use native.Mathlib.Omega.{arith}
 use Rattle.wire.proofs.ForCode.{model-inside, model-past}

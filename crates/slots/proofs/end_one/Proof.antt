@@ -1,5 +1,5 @@
 -- `end_one` meets its contract.
-use mathlib.Core.Path.{_≡_, refl, sym, ap, _∙_}
+use mathlib.Core.Path.{refl}
 use denote.Ref.{now}
 use Rattle.slots.proofs.LineEnds.{by-class, all-ends, ends-unheard, one-ends, in-error-ends}
 use borrow.Author.Needs.{needs}

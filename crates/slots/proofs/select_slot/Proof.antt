@@ -1,5 +1,5 @@
 -- `select_slot` meets its contract.
-use mathlib.Core.Path.{_≡_, refl, sym, ap, _∙_}
+use mathlib.Core.Path.{refl, sym, _∙_}
 use denote.Ref.{now}
 use Rattle.slots.proofs.LineEnds.{ends-select, ends-select-empty}
 use borrow.Author.Needs.{needs}
@@ -7,7 +7,7 @@ use Rattle.slots.proofs.select_slot.Statement.{statement}
 use Rattle.slots.proofs.select_slot.Tie as tie
 use Rattle.slots.proofs.select_slot.Reads as reads
 use Rattle.slots.proofs.select_slot.Lts as lts
-use Rattle.reply.proofs.put_code_reply.Reads as put-code-reply-reads
+use Rattle.texts.proofs.put_code_reply.Reads as put-code-reply-reads
 use Rattle.serial.proofs.cleared.Reads as cleared-reads
 use Rattle.serial.proofs.has_supply.Reads as has-supply-reads
 use Rattle.slots.proofs.one_ended.Reads as one-ended-reads

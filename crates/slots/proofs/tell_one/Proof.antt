@@ -1,5 +1,5 @@
 -- `tell_one` meets its contract.
-use mathlib.Core.Path.{_≡_, refl, sym, ap, _∙_}
+use mathlib.Core.Path.{refl, sym, _∙_}
 use denote.Ref.{now}
 use Rattle.slots.proofs.LineEnds.{ends-asked, ends-nobody}
 use borrow.Author.Needs.{needs}

@@ -1,7 +1,6 @@
 -- `take_some` meets its contract: what is used is within the bytes, and what `feed` and `call` do is calls in turn.
 use native.Mathlib.Omega.{arith}
-use mathlib.Core.Path.{_≡_, sym, ap, _∙_}
-use Prim.Native.Nat.{_-_, _≤_}
+use mathlib.Core.Path.{ap, _∙_}
 use denote.Ref.{now}
 use lib.ListN.{length, length-drop}
 use borrow.Author.Tests.{ltb-true}
@@ -14,7 +13,7 @@ use Rattle.turn.proofs.take_some.Lts as lts
 use Rattle.base.proofs.part_from.Reads as part-from-reads
 use Rattle.base.proofs.put_text.Reads as put-text-reads
 use Rattle.feed.proofs.feed.Reads as feed-reads
-use Rattle.rack.proofs.call.Reads as call-reads
+use Rattle.calls.proofs.call.Reads as call-reads
 use Rattle.base.proofs.least.Reads as least-reads
 use Rattle.base.proofs.part_to.Reads as part-to-reads
 

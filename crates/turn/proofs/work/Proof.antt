@@ -1,7 +1,7 @@
 -- `work` meets its contract: after each part of the turn the fields so far are worked, and while it goes on, bytes are used up.
 use borrow.Author.Needs.{needs}
 use native.Mathlib.Omega.{arith}
-use mathlib.Core.Path.{_≡_, refl, sym, ap, _∙_}
+use mathlib.Core.Path.{_≡_, refl, ap, _∙_}
 use mathlib.Core.Bool.{true, false, true≢false, _&&_}
 use Prim.Native.Nat.{_≤_, _<_, _+_, _-_}
 use lib.Dec.{ltb}

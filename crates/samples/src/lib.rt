@@ -1,0 +1,24 @@
+// What a sample does to a supply: its counts are stored, and it may trip.
+ghost use mathlib.Core.Path.{_≡_};
+ghost use Rattle.samples.specs.Samples.{sampled};
+use supply::Supply;
+
+// A sample of two counts. They are read only with the output on, since only then do they trip.
+pub fn sampled_at(model: u8, s: Supply, v: u16, a: u16) -> Supply
+    ensures { λ r. ⌜ r ≡ sampled model s v a ⌝ }
+{
+    let mut t = s;
+    t.volt_count = v;
+    t.amp_count = a;
+    if supply::is_on(s) {
+        let read = models::readings_of(model, v, a);
+        let over = (s.ovp as u64) <= read.volts;
+        let limited = s.armed & supply::reaches_pc(s, read.amps);
+        if over {
+            t.ovp_trip = true;
+        } else if limited {
+            t.fold_trip = true;
+        }
+    }
+    t
+}
