@@ -1,6 +1,10 @@
-use Rattle.hex.specs.Hex.{readHex}
 -- `hex_parameter` meets its contract.
-use Rattle.parameters.specs.Parameters.{parameterOf, readAs}
+use Prim.Native.Nat.{ℕ}
+use mathlib.Core.Path.{ap, _∙_}
+use mathlib.Core.List.{List}
+use Rattle.figures.specs.declared.Number.{Number}
+use Rattle.hex.specs.Hex.{readHex}
+use Rattle.parameters.specs.Parameters.{parameterOf, readAs, needed}
 use Rattle.parameters.proofs.Bounds.{needed-small}
 use Rattle.hex.proofs.Laws.{hex-lt}
 use borrow.Author.Needs.{needs}
@@ -19,7 +23,9 @@ need-requires c κs = search needs
 
 returns : tie.Need-returns
 unfolding parameterOf readAs
-returns c = (rw (← c .before .read-hex .ensures) (c .need .ensures), rw (c .need .ensures, c .before .read-hex .ensures) (needed-small (readHex (c .before .before .before .args .x .now)) (c .before .before .before .args .x .now) 256 (hex-lt (c .before .before .before .args .x .now))))
+returns c =
+    let x : List ℕ = c .before .before .before .args .x .now in
+    (c .need .ensures ∙ ap (λ (n : Number). needed n x) (c .before .read-hex .ensures), rw (c .need .ensures, c .before .read-hex .ensures) (needed-small (readHex x) x 256 (hex-lt x)))
 
 pub hex-parameter-spec : {M : Type 1} → statement M
 hex-parameter-spec = tie.close (tie.spec read-hex-requires need-requires returns)
