@@ -5,8 +5,6 @@ ghost use mathlib.Core.Bool.{_||_};
 ghost use lib.Dec.{eqb};
 ghost use Prim.Native.Nat.{_≤_, _<_};
 ghost use lib.ListN.{length, take, drop};
-ghost use Rattle.base.specs.Lists.{eachTo};
-ghost use Rattle.controller.specs.Printed.{printed};
 ghost use Rattle.controller.specs.Input.{AllWorked, InputDoes};
 use libc::STDIN_FILENO;
 use libc::STDOUT_FILENO;
@@ -32,27 +30,9 @@ fn say_refusal(code: u8) {
     io::write_all(STDOUT_FILENO, b"\n");
 }
 
-fn printed_byte(b: u8) -> u8
-    ensures { λ r. ⌜ r ≡ printed b ⌝ }
-{
-    if b == 13 { 10 } else { b }
-}
-
-// The first n bytes with LF for each CR.
-fn end_lines(out: &mut [u8], n: usize)
-    ensures { λ _. ⌜ (n ≤ length (now (out .entry)) → now (out .exit) ≡ eachTo (λ i b. printed b) n (now (out .entry))) ⌝ }
-{
-    let end = base::least(n, out.len());
-    let mut i = 0;
-    while i < end {
-        out[i] = printed_byte(out[i]);
-        i += 1;
-    }
-}
-
 // Writes the replies that wait before an index.
 fn write_out(out: &mut [u8], n: usize) {
-    end_lines(out, n);
+    buffers::end_lines(out, n);
     io::write_all(STDOUT_FILENO, base::part_to(out, n));
 }
 
@@ -89,21 +69,6 @@ fn take_block(room: &mut [u8], kept: usize) -> usize
     kept + io::count(got, free)
 }
 
-// Of the first n bytes, moves those from an index on to the start, and tells how many they are.
-fn keep_rest(room: &mut [u8], used: usize, n: usize) -> usize
-    ensures { λ k. ⌜ (take k (now (room .exit)) ≡ drop used (take n (now (room .entry)))) × (k ≤ length (now (room .exit))) ⌝ }
-{
-    let end = base::least(n, room.len());
-    let mut from = used;
-    let mut i = 0;
-    while from < end {
-        room[i] = room[from];
-        i += 1;
-        from += 1;
-    }
-    i
-}
-
 // Works the input to its end, or to the first refusal, and tells its number, or 0.
 fn take_input(r: Rack, room: &mut [u8], reply: &mut [u8], out: &mut [u8]) -> u8
     requires { ⌜ (r .line .count ≤ 64) × (length (now reply) ≡ 4096) × (length (now out) ≡ 65536) × (length (now room) ≡ 65536) ⌝ }
@@ -120,7 +85,7 @@ fn take_input(r: Rack, room: &mut [u8], reply: &mut [u8], out: &mut [u8]) -> u8
         rack = worked.rack;
         code = worked.code;
         more = (kept < n) & waits(code);
-        kept = keep_rest(room, worked.used, n);
+        kept = buffers::keep_rest(room, worked.used, n);
         reads -= 1;
     }
     if kept == 0 { 0 } else { code }

@@ -19,7 +19,7 @@ abbrev pub Final : ℕ → Type 0
 Final n = (n ≡ 2 → ⊥) × (n ≡ 5 → ⊥)
 
 -- k reads brought the bytes s, the last of them those of b. The bytes of each read are worked behind those that were kept, as calls in
--- turn, up to a call that is refused with n; what is left is kept, and read on only where the refusal waits
+-- turn, up to a call that is refused with n, and what is left is kept; another read comes only where that refusal waits
 pub data Reads (v : wire.Rack Supply) : (k : ℕ) (s b : List ℕ) (q : wire.Rack Supply) (kept said : List ℕ) (n : ℕ) → Type 0 where
   nothing : Reads v 0 [] [] v [] [] 2
   read :

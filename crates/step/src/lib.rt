@@ -1,5 +1,5 @@
 // One field on the line and on the supply of the slot that it reaches, without the rest of the rack.
-// A field that is not as simple (a line for all, a byte behind a line's CR) is not taken, and so is one that is refused.
+// A field that is not as simple (a line for all, a byte behind a line's CR) is not taken, nor is one that is refused.
 ghost use mathlib.Core.Path.{_≡_};
 ghost use mathlib.Core.Bool.{true};
 ghost use Prim.Native.Nat.{_<_};

@@ -11,7 +11,8 @@ use Rattle.controller.proofs.take_input.Tie as tie
 use Rattle.controller.proofs.take_input.Reads as reads
 use Rattle.controller.proofs.take_input.Lts as lts
 use Rattle.base.proofs.part_to.Reads as part-to-reads
-use Rattle.controller.proofs.keep_rest.Reads as keep-rest-reads
+use Rattle.buffers.proofs.Kept.{kept-part}
+use Rattle.buffers.proofs.keep_rest.Reads as keep-rest-reads
 use Rattle.controller.proofs.take_block.Reads as take-block-reads
 use Rattle.controller.proofs.take_fields.Reads as take-fields-reads
 use Rattle.controller.proofs.waits.Reads as waits-reads
@@ -60,11 +61,11 @@ loop-again c = (
   search needs,
   search needs,
   c .before .before .before .before .before .before .before .before .before .before .take-fields .ensures .fields .small,
-  c .before .before .keep-rest .ensures .1,
+  kept-part (c .before .before .keep-rest .ensures) .1,
   let l = c .before .before .before .before .before .before .before .before .before .before .before .before .before .before .before .before .before .before .before .before .before .loop in
       let block = c .before .before .before .before .before .before .before .before .before .before .before .before .before .before .before .before .before .take-block .ensures in
       let fields = c .before .before .before .before .before .before .before .before .before .before .take-fields in
-      rw (c .before .before .before .before .waits .ensures) (at-more (viewOf (c .before .before .before .before .before .before .before .before .before .before .before .before .before .before .before .before .before .before .before .before .before .before .before .before .before .args .r)) (l .rack) (take (l .kept) (l .room)) (l .code) (l .reads) (rw (c .before .before .before .before .before .before .before .before .before .before .before .before .before .before .before .before .before .before .before .if1 .taken) at (l .inv .5)) (c .before .before .before .before .before .before .before .before .before .before .before .before .before .before .before .before .before .before .before .before .loop-test .taken) _ (l .kept) (c .before .before .before .before .before .before .before .before .before .before .before .before .before .before .before .before .before .take-block .result) (fields .result) _ (kept-first (l .room) _ (l .kept) _ (block .0) (block .1)) (rw length-take (omega arith)) (rw (c .before .before .before .before .before .before .before .before .before .before .before .before .before .part-to .ensures) at (fields .ensures)) (c .before .before .keep-rest .ensures .0)),
+      rw (c .before .before .before .before .waits .ensures) (at-more (viewOf (c .before .before .before .before .before .before .before .before .before .before .before .before .before .before .before .before .before .before .before .before .before .before .before .before .before .args .r)) (l .rack) (take (l .kept) (l .room)) (l .code) (l .reads) (rw (c .before .before .before .before .before .before .before .before .before .before .before .before .before .before .before .before .before .before .before .if1 .taken) at (l .inv .5)) (c .before .before .before .before .before .before .before .before .before .before .before .before .before .before .before .before .before .before .before .before .loop-test .taken) _ (l .kept) (c .before .before .before .before .before .before .before .before .before .before .before .before .before .before .before .before .before .take-block .result) (fields .result) _ (kept-first (l .room) _ (l .kept) _ (block .0) (block .1)) (rw length-take (omega arith)) (rw (c .before .before .before .before .before .before .before .before .before .before .before .before .before .part-to .ensures) at (fields .ensures)) (kept-part (c .before .before .keep-rest .ensures) .0)),
 )
 
 same-length : tie.Need-same-length Inv-loop μ-loop

@@ -1,11 +1,11 @@
 -- `printed_byte` meets its contract.
 use mathlib.Core.Path.{refl}
 use borrow.Author.Tests.{ne-eqb, eq-eqb}
-use Rattle.controller.specs.Printed.{printed}
-use Rattle.controller.proofs.printed_byte.Statement.{statement}
-use Rattle.controller.proofs.printed_byte.Tie as tie
-use Rattle.controller.proofs.printed_byte.Reads as reads
-use Rattle.controller.proofs.printed_byte.Lts as lts
+use Rattle.buffers.specs.Printed.{printed}
+use Rattle.buffers.proofs.printed_byte.Statement.{statement}
+use Rattle.buffers.proofs.printed_byte.Tie as tie
+use Rattle.buffers.proofs.printed_byte.Reads as reads
+use Rattle.buffers.proofs.printed_byte.Lts as lts
 
 returns : tie.Need-returns
 unfolding printed

@@ -4,15 +4,15 @@ use native.Mathlib.Omega.{arith}
 use mathlib.Core.Path.{_≡_, refl, _∙_}
 use Prim.Native.Nat.{_≤_, _+_, _-_, min}
 use lib.ListN.{length, length-set}
-use Rattle.controller.proofs.Kept.{Moved, moved-none, moved-more, moved-all}
-use Rattle.controller.proofs.keep_rest.Statement.{statement}
-use Rattle.controller.proofs.keep_rest.Tie as tie
-use Rattle.controller.proofs.keep_rest.Reads as reads
-use Rattle.controller.proofs.keep_rest.Lts as lts
+use Rattle.buffers.proofs.Kept.{Moved, moved-none, moved-more, moved-all}
+use Rattle.buffers.proofs.keep_rest.Statement.{statement}
+use Rattle.buffers.proofs.keep_rest.Tie as tie
+use Rattle.buffers.proofs.keep_rest.Reads as reads
+use Rattle.buffers.proofs.keep_rest.Lts as lts
 use Rattle.base.proofs.least.Reads as least-reads
 
 abbrev Inv-loop : tie.InvT-loop
-Inv-loop room₀ used n end from₀ i₀ room from i = (from ≡ used + i) × (length room ≡ length room₀) × (end ≡ min n (length room₀)) × Moved room₀ used n i room × (i ≤ length room₀)
+Inv-loop room₀ used n end from₀ i₀ room from i = (from ≡ used + i) × (length room ≡ length room₀) × (end ≡ min n (length room₀)) × Moved room₀ used n i room × (i ≤ end - used)
 
 abbrev μ-loop : tie.MeasureT-loop
 μ-loop room₀ used n end from₀ i₀ room from i = end - from
@@ -47,7 +47,7 @@ loop-again c =
       length-set (l .loop .room) _ _ ∙ l .loop .inv .1,
       l .loop .inv .2,
       moved-more (z .room .now) (l .loop .room) (z .used) (z .n) (l .loop .i) (l .loop .inv .3) (l .loop .from) 0 at (omega (arith, l .loop .inv .2, c .before .loop-test .taken)) (l .loop .inv .1),
-      omega (arith, at, l .loop .inv .2, c .before .loop-test .taken),
+      omega (arith, at, c .before .loop-test .taken),
     )
 
 same-length : tie.Need-same-length Inv-loop μ-loop
@@ -57,7 +57,9 @@ returns : tie.Need-returns Inv-loop μ-loop
 returns c =
     let l = c .before in
     let z = c .before .before .before .before .args in
-    (moved-all (z .room .now) (l .loop .room) (z .used) (z .n) (l .loop .i) (l .loop .inv .3) (omega (arith, l .loop .inv .0, l .loop .inv .2, c .loop-test .left)), omega (arith, l .loop .inv .1, l .loop .inv .4))
+    let no-more : l .loop .i ≤ min (z .n) (length (z .room .now)) - z .used = omega (arith, l .loop .inv .4, l .loop .inv .2) in
+    let no-less : min (z .n) (length (z .room .now)) ≤ z .used + l .loop .i = omega (arith, l .loop .inv .0, l .loop .inv .2, c .loop-test .left) in
+    moved-all (z .room .now) (l .loop .room) (z .used) (z .n) (l .loop .i) (l .loop .inv .3) no-more no-less
 
 pub keep-rest-spec : {M : Type 1} → statement M
 keep-rest-spec =

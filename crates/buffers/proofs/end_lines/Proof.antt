@@ -2,21 +2,22 @@
 use borrow.Author.Needs.{needs}
 use native.Mathlib.Omega.{arith}
 use mathlib.Core.Path.{_≡_, refl, _∙_}
-use Prim.Native.Nat.{_≤_, _-_}
+use Prim.Native.Nat.{_≤_, _-_, min}
 use lib.ListN.{length, length-set}
 use Rattle.base.specs.Lists.{eachTo}
 use Rattle.base.proofs.Lists.{eachTo-again}
-use Rattle.controller.specs.Printed.{printed}
-use Rattle.controller.proofs.end_lines.Statement.{statement}
-use Rattle.controller.proofs.end_lines.Tie as tie
-use Rattle.controller.proofs.end_lines.Reads as reads
-use Rattle.controller.proofs.end_lines.Lts as lts
+use Rattle.buffers.specs.Printed.{printed}
+use Rattle.buffers.proofs.Printed.{each-there}
+use Rattle.buffers.proofs.end_lines.Statement.{statement}
+use Rattle.buffers.proofs.end_lines.Tie as tie
+use Rattle.buffers.proofs.end_lines.Reads as reads
+use Rattle.buffers.proofs.end_lines.Lts as lts
 use Rattle.base.proofs.least.Reads as least-reads
-use Rattle.controller.proofs.printed_byte.Reads as printed-byte-reads
+use Rattle.buffers.proofs.printed_byte.Reads as printed-byte-reads
 
 abbrev Inv-loop : tie.InvT-loop
 Inv-loop out₀ n end i₀ out i =
-    (i ≤ end) × (length out ≡ length out₀) × (end ≤ length out₀) × (n ≤ length out₀ → end ≡ n) × (out ≡ eachTo (λ j b. printed b) i out₀)
+    (i ≤ end) × (length out ≡ length out₀) × (end ≡ min n (length out₀)) × (out ≡ eachTo (λ j b. printed b) i out₀)
 
 abbrev μ-loop : tie.MeasureT-loop
 μ-loop out₀ n end i₀ out i = end - i
@@ -25,7 +26,7 @@ least-requires : tie.Need-least-requires Inv-loop μ-loop
 least-requires c κs = search needs
 
 loop-holds : tie.Need-loop-holds Inv-loop μ-loop
-loop-holds c = (search needs, refl, omega (arith, c .least .ensures), λ h. omega (arith, h, c .least .ensures), refl)
+loop-holds c = (search needs, refl, c .least .ensures, refl)
 
 slice-read-printed-byte : tie.Need-slice-read-printed-byte Inv-loop μ-loop
 slice-read-printed-byte c = search needs
@@ -45,16 +46,16 @@ loop-less c = search needs
 loop-again : tie.Need-loop-again Inv-loop μ-loop
 loop-again c =
     let l = c .before .before .before in
-    (search needs, length-set (l .loop .out) _ _ ∙ l .loop .inv .1, l .loop .inv .2, l .loop .inv .3, eachTo-again (λ j b. printed b) (l .loop .i) _ (l .loop .out) 0 _ (l .loop .inv .4) (c .printed-byte .ensures))
+    (search needs, length-set (l .loop .out) _ _ ∙ l .loop .inv .1, l .loop .inv .2, eachTo-again (λ j b. printed b) (l .loop .i) _ (l .loop .out) 0 _ (l .loop .inv .3) (c .printed-byte .ensures))
 
 same-length : tie.Need-same-length Inv-loop μ-loop
 same-length c = search needs
 
 returns : tie.Need-returns Inv-loop μ-loop
-returns c = λ h.
+returns c =
     let l = c .before in
-    let e : l .loop .i ≡ c .before .before .before .before .args .n = omega (arith, l .loop .inv .0, c .loop-test .left, l .loop .inv .3 h) in
-    rw (← e) (l .loop .inv .4)
+    let z = c .before .before .before .before .args in
+    l .loop .inv .3 ∙ each-there (λ j b. printed b) (l .loop .i) (z .n) (z .out .now) (omega (arith, l .loop .inv .0, l .loop .inv .2, c .loop-test .left))
 
 pub end-lines-spec : {M : Type 1} → statement M
 end-lines-spec =

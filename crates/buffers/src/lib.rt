@@ -1,0 +1,38 @@
+// The bytes that a program has in its buffers: replies as they are printed, and what is left of the input.
+ghost use mathlib.Core.Path.{_≡_};
+ghost use Rattle.base.specs.Lists.{eachTo};
+ghost use Rattle.buffers.specs.Printed.{printed};
+ghost use Rattle.buffers.specs.Kept.{Kept};
+
+fn printed_byte(b: u8) -> u8
+    ensures { λ r. ⌜ r ≡ printed b ⌝ }
+{
+    if b == 13 { 10 } else { b }
+}
+
+// The first n bytes with LF for each CR.
+pub fn end_lines(out: &mut [u8], n: usize)
+    ensures { λ _. ⌜ now (out .exit) ≡ eachTo (λ i b. printed b) n (now (out .entry)) ⌝ }
+{
+    let end = base::least(n, out.len());
+    let mut i = 0;
+    while i < end {
+        out[i] = printed_byte(out[i]);
+        i += 1;
+    }
+}
+
+// Of the first n bytes, moves those from an index on to the start, and tells how many they are.
+pub fn keep_rest(room: &mut [u8], used: usize, n: usize) -> usize
+    ensures { λ k. ⌜ Kept (now (room .entry)) used n k (now (room .exit)) ⌝ }
+{
+    let end = base::least(n, room.len());
+    let mut from = used;
+    let mut i = 0;
+    while from < end {
+        room[i] = room[from];
+        i += 1;
+        from += 1;
+    }
+    i
+}
