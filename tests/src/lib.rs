@@ -6,6 +6,7 @@ pub mod compare;
 pub mod generate;
 pub mod line;
 pub mod live;
+pub mod messages;
 pub mod outside;
 pub mod program;
 pub mod rack;

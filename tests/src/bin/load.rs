@@ -4,7 +4,12 @@
 //!
 //! samples: counts from the cells with the outputs on, and now and then a trip, a line or a key;
 //! serial: lines of orders and queries, some with sums, and seldom a global one;
-//! mixed: all five tags.
+//! mixed: all five tags;
+//! query: a query with CR LF in each field, and seldom an ADR;
+//! order: an order with CR LF in each field, and seldom an ADR;
+//! queries: three queries in each field, and seldom an ADR;
+//! summed: a query with its sum in each field, and seldom an ADR;
+//! global: a line to all slots in each field.
 
 use rack_tests::generate::Draw;
 use rack_tests::line::checksum;
@@ -13,6 +18,29 @@ use rack_tests::supply::{amperes_text, volts_text, Supply, LINE_BITS, MODELS};
 use std::io::{self, BufWriter, Write};
 use std::process::ExitCode;
 
+#[derive(Clone, Copy)]
+enum Kind {
+    Samples,
+    Serial,
+    Mixed,
+    Query,
+    Order,
+    Queries,
+    Summed,
+    Global,
+}
+
+const KINDS: [(&str, Kind); 8] = [
+    ("samples", Kind::Samples),
+    ("serial", Kind::Serial),
+    ("mixed", Kind::Mixed),
+    ("query", Kind::Query),
+    ("order", Kind::Order),
+    ("queries", Kind::Queries),
+    ("summed", Kind::Summed),
+    ("global", Kind::Global),
+];
+
 const FIELD_ROOM: usize = 16;
 /// Counts that are surely below PC as the set-up leaves it, and one that is above.
 const BELOW_PC: u64 = 39_000;
@@ -20,7 +48,13 @@ const ABOVE_PC: u16 = 45_000;
 /// Counts up to the rating are below OVP at its most.
 const RATING: u64 = 50_000;
 
+/// What every model takes, in ticks and mA: 80 % of the least rating of all.
+const ALL_TAKE_VOLTS: i64 = 48_000;
+const ALL_TAKE_AMPERES: i64 = 1_040;
+
 const QUERIES: [&str; 8] = ["PV?", "PV?", "PV?", "MV?", "MV?", "MC?", "OUT?", "FLT?"];
+/// Queries that a figure answers, which is most of what a board asks.
+const FIGURES: [&str; 4] = ["PV?", "PC?", "MV?", "MC?"];
 const GLOBALS: [&str; 4] = ["GPV 4", "GPC 1", "GOUT 1", "GRST"];
 
 /// Lines whose number or word is at fault; the supply says so and the list goes on.
@@ -37,15 +71,16 @@ struct Load<W: Write> {
 fn main() -> ExitCode {
     let arguments: Vec<String> = std::env::args().skip(1).collect();
     let words: Vec<&str> = arguments.iter().map(String::as_str).collect();
-    let [kind @ ("samples" | "serial" | "mixed"), fields, slots, seed] = words[..] else {
+    let [kind, fields, slots, seed] = words[..] else {
         return usage();
     };
-    let (Ok(fields), Ok(slots @ 1..=SLOTS), Ok(seed)) =
-        (fields.parse(), slots.parse(), seed.parse())
+    let kind = KINDS.iter().find(|(name, _)| *name == kind);
+    let (Some((_, kind)), Ok(fields), Ok(slots @ 1..=SLOTS), Ok(seed)) =
+        (kind, fields.parse(), slots.parse(), seed.parse())
     else {
         return usage();
     };
-    match write(kind, fields, slots, seed) {
+    match write(*kind, fields, slots, seed) {
         Ok(()) => ExitCode::SUCCESS,
         Err(error) => {
             eprintln!("{error}");
@@ -55,11 +90,12 @@ fn main() -> ExitCode {
 }
 
 fn usage() -> ExitCode {
-    eprintln!("usage: load samples|serial|mixed FIELDS SLOTS SEED (1 to {SLOTS} slots)");
+    let kinds = KINDS.map(|(name, _)| name).join("|");
+    eprintln!("usage: load {kinds} FIELDS SLOTS SEED (1 to {SLOTS} slots)");
     ExitCode::from(2)
 }
 
-fn write(kind: &str, fields: u64, slots: usize, seed: u64) -> io::Result<()> {
+fn write(kind: Kind, fields: u64, slots: usize, seed: u64) -> io::Result<()> {
     let list = fitting_list(slots);
     let mut out = BufWriter::new(io::stdout().lock());
     out.write_all(&list)?;
@@ -71,14 +107,13 @@ fn write(kind: &str, fields: u64, slots: usize, seed: u64) -> io::Result<()> {
         left: fields,
     };
     for slot in load.fitted.clone() {
-        load.set_up(slot)?;
+        match kind {
+            Kind::Samples | Kind::Serial | Kind::Mixed => load.set_up(slot)?,
+            _ => load.set_up_alike(slot)?,
+        }
     }
     while load.left > 0 {
-        match kind {
-            "samples" => load.samples()?,
-            "serial" => load.serial()?,
-            _ => load.mixed()?,
-        }
+        load.next(kind)?;
     }
     load.out.flush()
 }
@@ -90,6 +125,10 @@ fn fitting_list(slots: usize) -> Vec<u8> {
         list[SLOTS - 1 - number * SLOTS / slots] = (number % MODELS.len()) as u8;
     }
     list
+}
+
+fn with_sum(text: &str) -> String {
+    format!("{text}${:02X}", checksum(text.as_bytes()))
 }
 
 impl<W: Write> Load<W> {
@@ -130,7 +169,32 @@ impl<W: Write> Load<W> {
         self.say("OUT 1")
     }
 
+    /// The same settings and readings for each model, so that an answer is as long in any slot.
+    fn set_up_alike(&mut self, slot: usize) -> io::Result<()> {
+        let model = self.supply(slot).limits();
+        let count = |wanted: i64, rating: i64| (wanted * RATING as i64 / rating) as u16;
+        let volts = count(ALL_TAKE_VOLTS * 9 / 10, model.rated_volts);
+        let amperes = count(ALL_TAKE_AMPERES * 9 / 10, model.rated_amperes);
+        self.say(&format!("ADR {slot}"))?;
+        self.say(&format!("PV {}", volts_text(ALL_TAKE_VOLTS)))?;
+        self.say(&format!("PC {}", amperes_text(ALL_TAKE_AMPERES)))?;
+        self.say("OUT 1")?;
+        self.counts(slot, volts, amperes)
+    }
+
     // ---- the kinds ----
+
+    fn next(&mut self, kind: Kind) -> io::Result<()> {
+        match kind {
+            Kind::Samples => self.samples(),
+            Kind::Serial => self.serial(),
+            Kind::Mixed => self.mixed(),
+            _ => {
+                let line = self.line(kind);
+                self.field(1, line.as_bytes())
+            }
+        }
+    }
 
     fn samples(&mut self) -> io::Result<()> {
         let slot = self.any_slot();
@@ -158,6 +222,10 @@ impl<W: Write> Load<W> {
 
     fn sample(&mut self, slot: usize, amperes: u16) -> io::Result<()> {
         let volts = self.draw.below(RATING + 1) as u16;
+        self.counts(slot, volts, amperes)
+    }
+
+    fn counts(&mut self, slot: usize, volts: u16, amperes: u16) -> io::Result<()> {
         let counts = [volts.to_be_bytes(), amperes.to_be_bytes()].concat();
         self.field(5, &[&[slot as u8], &counts[..]].concat())
     }
@@ -179,7 +247,7 @@ impl<W: Write> Load<W> {
             _ => self.draw.pick(&QUERIES).to_string(),
         };
         match self.draw.percent(25) {
-            true => self.say(&format!("{text}${:02X}", checksum(text.as_bytes()))),
+            true => self.say(&with_sum(&text)),
             false => self.say(&text),
         }
     }
@@ -191,6 +259,40 @@ impl<W: Write> Load<W> {
         match self.draw.percent(70) {
             true => format!("PV {}", volts_text(self.draw.between(0, model.rated_volts))),
             false => format!("PC {}", amperes_text(self.draw.between(0, model.rated_amperes))),
+        }
+    }
+
+    /// What a field of the kinds has in which all are alike. An ADR now and then has all slots
+    /// spoken to.
+    fn line(&mut self, kind: Kind) -> String {
+        let text = match kind {
+            Kind::Global => self.global(),
+            _ if self.draw.percent(1) => format!("ADR {}", self.any_slot()),
+            Kind::Order => self.order(),
+            Kind::Queries => "PV?\rMV?\rMC?".to_string(),
+            Kind::Summed => with_sum(self.draw.pick(&FIGURES)),
+            _ => self.draw.pick(&FIGURES).to_string(),
+        };
+        match kind {
+            Kind::Query | Kind::Order => text + "\r\n",
+            _ => text + "\r",
+        }
+    }
+
+    fn order(&mut self) -> String {
+        match self.draw.percent(10) {
+            true => "OUT 1".to_string(),
+            false => self.setting(),
+        }
+    }
+
+    /// Settings that every slot takes, so that none says no in silence.
+    fn global(&mut self) -> String {
+        match self.draw.below(10) {
+            0..=3 => format!("GPV {}", volts_text(self.draw.between(0, ALL_TAKE_VOLTS))),
+            4..=6 => format!("GPC {}", amperes_text(self.draw.between(0, ALL_TAKE_AMPERES))),
+            7..=8 => "GOUT 1".to_string(),
+            _ => "GRST".to_string(),
         }
     }
 

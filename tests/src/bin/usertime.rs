@@ -1,9 +1,15 @@
 //! How long two programs compute on the same file: `usertime RUNS INPUT PROGRAM OTHER` runs them in
 //! turn, so many times each and with their output thrown away. It prints the median of either's user
 //! times in microseconds and the median of the ratios, one program's run by the other's next to it.
+//! With `--one-a-read` before all that, each of their reads brings one field of the file.
 
-use std::fs::File;
-use std::process::{Command, ExitCode, Stdio};
+use rack_tests::messages::feed;
+use std::fs::{self, File};
+use std::io;
+use std::process::{Command, ExitCode, ExitStatus, Stdio};
+
+/// How a command gets the input of this path.
+type Way = fn(&mut Command, &str) -> io::Result<ExitStatus>;
 
 /// The kernel's account of the children that have ended, as Linux on x86-64 lays it out: seconds
 /// and microseconds of user time, the same of system time, and 14 numbers not used here.
@@ -25,13 +31,18 @@ mod account {
 
 fn main() -> ExitCode {
     let arguments: Vec<String> = std::env::args().skip(1).collect();
-    let [runs, input, program, other] = &arguments[..] else {
+    let words: Vec<&str> = arguments.iter().map(String::as_str).collect();
+    let (way, words): (Way, _) = match &words[..] {
+        ["--one-a-read", rest @ ..] => (on_messages, rest),
+        all => (on_file, all),
+    };
+    let [runs, input, program, other] = words else {
         return usage();
     };
     let Ok(runs @ 1..) = runs.parse() else {
         return usage();
     };
-    match in_turn(runs, input, program, other) {
+    match in_turn(way, runs, input, program, other) {
         Ok(pairs) => {
             let ones = median(pairs.iter().map(|(one, _)| *one));
             let others = median(pairs.iter().map(|(_, other)| *other));
@@ -47,13 +58,27 @@ fn main() -> ExitCode {
 }
 
 fn usage() -> ExitCode {
-    eprintln!("usage: usertime RUNS INPUT PROGRAM OTHER");
+    eprintln!("usage: usertime [--one-a-read] RUNS INPUT PROGRAM OTHER");
     ExitCode::from(2)
 }
 
+fn on_file(command: &mut Command, input: &str) -> io::Result<ExitStatus> {
+    command.stdin(File::open(input)?).status()
+}
+
+fn on_messages(command: &mut Command, input: &str) -> io::Result<ExitStatus> {
+    feed(command, &fs::read(input)?)
+}
+
 /// Run by run, so that a busy minute of the machine meets both.
-fn in_turn(runs: u32, input: &str, one: &str, other: &str) -> Result<Vec<(f64, f64)>, String> {
-    (0..runs).map(|_| Ok((one_run(one, input)?, one_run(other, input)?))).collect()
+fn in_turn(
+    way: Way,
+    runs: u32,
+    input: &str,
+    one: &str,
+    other: &str,
+) -> Result<Vec<(f64, f64)>, String> {
+    (0..runs).map(|_| Ok((one_run(way, one, input)?, one_run(way, other, input)?))).collect()
 }
 
 fn median(values: impl Iterator<Item = f64>) -> f64 {
@@ -62,11 +87,10 @@ fn median(values: impl Iterator<Item = f64>) -> f64 {
     values[values.len() / 2]
 }
 
-fn one_run(program: &str, input: &str) -> Result<f64, String> {
-    let file = File::open(input).map_err(|error| format!("{input}: {error}"))?;
+fn one_run(way: Way, program: &str, input: &str) -> Result<f64, String> {
     let before = account::user_microseconds();
-    let status = Command::new(program).stdin(file).stdout(Stdio::null()).status();
-    let status = status.map_err(|error| format!("{program}: {error}"))?;
+    let status = way(Command::new(program).stdout(Stdio::null()), input);
+    let status = status.map_err(|error| format!("{program} on {input}: {error}"))?;
     match status.success() {
         true => Ok((account::user_microseconds() - before) as f64),
         false => Err(format!("{program} ended with {status}")),
