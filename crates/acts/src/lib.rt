@@ -8,6 +8,7 @@ use supply::Order;
 use supply::Outcome;
 use supply::Query;
 use supply::Supply;
+use supply::Target;
 
 // FEVE goes to 0 where the test says so.
 fn clear_feve(s: Supply, test: bool) -> Supply
@@ -69,10 +70,28 @@ fn accept(before: Supply, after: Supply) -> Outcome
     }
 }
 
+// A figure for a setting. What is refused changes nothing; a setting shows in no bit of FLT, so that FEVE gains nothing.
+pub fn obey_set(model: u8, s: Supply, t: Target, n: u64) -> Outcome
+    ensures { λ r. ⌜ (r .code ≡ orderCode model s (Order.Set t n)) × (r .supply ≡ performed model s (Act.Obey (Order.Set t n))) ⌝ }
+{
+    let code = codes::set_code(model, s, t, n);
+    if code == 0 {
+        let after = orders::put_setting(s, t, (n % 0x1_0000_0000) as u32);
+        return Outcome {
+            code,
+            supply: after,
+        };
+    }
+    Outcome { code, supply: s }
+}
+
 // An order: its code, and the supply after it. What is refused changes nothing, and CLS and RST close with FEVE 0.
-fn obey_order(model: u8, s: Supply, o: Order) -> Outcome
+pub fn obey_order(model: u8, s: Supply, o: Order) -> Outcome
     ensures { λ r. ⌜ (r .code ≡ orderCode model s o) × (r .supply ≡ performed model s (Act.Obey o)) ⌝ }
 {
+    if let Order::Set(t, n) = o {
+        return obey_set(model, s, t, n);
+    }
     let code = codes::order_code(model, s, o);
     if code != 0 {
         return Outcome { code, supply: s };
@@ -84,17 +103,37 @@ fn obey_order(model: u8, s: Supply, o: Order) -> Outcome
     }
 }
 
+// A sample, and what the registers gain by it.
+pub fn sampled(model: u8, s: Supply, v: u16, a: u16) -> Supply
+    ensures { λ r. ⌜ r ≡ performed model s (Act.Sample v a) ⌝ }
+{
+    supply::settle(s, samples::sampled_at(model, s, v, a))
+}
+
+// A query. It leaves FLT as it was, so that FEVE gains nothing; no query needs the model, which goes with every act.
+pub fn asked(model: u8, s: Supply, q: Query) -> Supply
+    ensures { λ r. ⌜ r ≡ performed model s (Act.Ask q) ⌝ }
+{
+    clear_feve(s, query_clears(q))
+}
+
 // An act: its code, and the supply after it. Only an order can be refused.
 pub fn perform(model: u8, s: Supply, a: Act) -> Outcome
     ensures { λ r. ⌜ (r .code ≡ codeOf model s a) × (r .supply ≡ performed model s a) ⌝ }
 {
     match a {
         Act::Lines(b) => accept(s, events::lines_changed(s, b)),
-        Act::Sample(v, i) => accept(s, samples::sampled_at(model, s, v, i)),
+        Act::Sample(v, i) => Outcome {
+            code: 0,
+            supply: sampled(model, s, v, i),
+        },
         Act::Press(k) => accept(s, events::press(s, k)),
         Act::Turn(t, raw) => accept(s, events::turn(model, s, t, raw)),
         Act::Obey(o) => obey_order(model, s, o),
-        Act::Ask(q) => accept(s, clear_feve(s, query_clears(q))),
+        Act::Ask(q) => Outcome {
+            code: 0,
+            supply: asked(model, s, q),
+        },
         Act::Nothing => accept(s, s),
     }
 }

@@ -68,16 +68,28 @@ fn uvl_code(most: u32, pv: u32, n: u64) -> u8
     }
 }
 
-// The code of PV n, PC n, OVP n or UVL n.
-fn set_code(model: u8, s: Supply, t: Target, n: u64) -> u8
+// The code of PV n, PC n, OVP n or UVL n. Each arm looks up its limits for itself: the compiler then reads
+// only those that the arm needs.
+pub fn set_code(model: u8, s: Supply, t: Target, n: u64) -> u8
     ensures { λ r. ⌜ r ≡ setCode model s t n ⌝ }
 {
-    let l = models::limits_of(model);
     match t {
-        Target::Pv => pv_code(l.volts, s.ovp, s.uvl, n),
-        Target::Pc => pc_code(l.amps, n),
-        Target::Ovp => ovp_code(l.ovp_least, l.ovp_most, s.pv, n),
-        Target::Uvl => uvl_code(l.uvl_most, s.pv, n),
+        Target::Pv => {
+            let l = models::limits_of(model);
+            pv_code(l.volts, s.ovp, s.uvl, n)
+        }
+        Target::Pc => {
+            let l = models::limits_of(model);
+            pc_code(l.amps, n)
+        }
+        Target::Ovp => {
+            let l = models::limits_of(model);
+            ovp_code(l.ovp_least, l.ovp_most, s.pv, n)
+        }
+        Target::Uvl => {
+            let l = models::limits_of(model);
+            uvl_code(l.uvl_most, s.pv, n)
+        }
     }
 }
 

@@ -11,11 +11,17 @@ pub struct Number {
     pub value: u64,
 }
 
-// What a digit character stands for.
+// What a digit character stands for. Only a byte that is no digit needs the remainder.
 pub fn digit(b: u8) -> u64
     ensures { λ r. ⌜ r ≡ digitOf b ⌝ }
 {
-    if b < 48 { 0 } else { ((b - 48) % 10) as u64 }
+    if b < 48 {
+        0
+    } else if b < 58 {
+        (b - 48) as u64
+    } else {
+        ((b - 48) % 10) as u64
+    }
 }
 
 // The value of the first n characters of s.

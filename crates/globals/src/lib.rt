@@ -1,34 +1,45 @@
 // A global in code: an order to every fitted slot, each supply judging for itself.
 ghost use mathlib.Core.Path.{_≡_};
 ghost use Rattle.base.specs.Lists.{eachTo};
+ghost use Rattle.acts.specs.Acts.{performed};
 ghost use Rattle.globals.specs.Globals.{orderedAt};
 use supply::Act;
 use supply::Order;
 use supply::Supply;
+use supply::Target;
 use wire::Setup;
 
-fn ordered_at(u: Setup, o: Order, a: u8, s: Supply) -> Supply
-    ensures { λ r. ⌜ r ≡ orderedAt u o a s ⌝ }
+fn after_set(model: u8, s: Supply, t: Target, n: u64) -> Supply
+    ensures { λ r. ⌜ r ≡ performed model s (Act.Obey (Order.Set t n)) ⌝ }
 {
-    if serial::has_supply(u, a) {
-        let done = acts::perform(serial::model_at(u, a), s, Act::Obey(o));
-        let after = done.supply;
-        after
-    } else {
-        s
-    }
+    let done = acts::obey_set(model, s, t, n);
+    let after = done.supply;
+    after
 }
 
-// An order to every fitted slot.
+fn after_order(model: u8, s: Supply, o: Order) -> Supply
+    ensures { λ r. ⌜ r ≡ performed model s (Act.Obey o) ⌝ }
+{
+    let done = acts::obey_order(model, s, o);
+    let after = done.supply;
+    after
+}
+
+// An order to every fitted slot. A figure for a setting, as most globals bring, takes the shorter of two ways.
 pub fn order_all(u: Setup, slots: [Supply; 31], o: Order) -> [Supply; 31]
     ensures { λ r. ⌜ r ≡ eachTo (orderedAt u o) 31 slots ⌝ }
 {
+    let models = u.models;
     let mut next = slots;
-    let mut i: u8 = 0;
-    while i < 31 {
-        let k = i as usize;
-        next[k] = ordered_at(u, o, i, next[k]);
-        i += 1;
+    for i in 0..31 {
+        if models[i] == 255 {
+            continue;
+        }
+        if let Order::Set(t, n) = o {
+            next[i] = after_set(models[i], next[i], t, n);
+            continue;
+        }
+        next[i] = after_order(models[i], next[i], o);
     }
     next
 }

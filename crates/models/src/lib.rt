@@ -105,8 +105,8 @@ const MODELS: [Limits; 12] = [
     },
 ];
 
-// The limits of a model; of a number that is no model, all 0.
-pub fn limits_of(model: u8) -> Limits
+// A row of the table; of a number that has none, all 0.
+fn look_up(model: u8) -> Limits
     ensures { λ r. ⌜ r ≡ limitsOf model ⌝ }
 {
     if model < 12 {
@@ -119,6 +119,28 @@ pub fn limits_of(model: u8) -> Limits
             ovp_most: 0,
             uvl_most: 0,
         }
+    }
+}
+
+// The limits of a model; of a number that is no model, all 0. A look-up at a number that the compiler knows
+// is worked out beforehand; at any other the whole table is laid out on the stack each time.
+pub fn limits_of(model: u8) -> Limits
+    ensures { λ r. ⌜ r ≡ limitsOf model ⌝ }
+{
+    match model {
+        0 => look_up(0),
+        1 => look_up(1),
+        2 => look_up(2),
+        3 => look_up(3),
+        4 => look_up(4),
+        5 => look_up(5),
+        6 => look_up(6),
+        7 => look_up(7),
+        8 => look_up(8),
+        9 => look_up(9),
+        10 => look_up(10),
+        11 => look_up(11),
+        _ => look_up(model),
     }
 }
 

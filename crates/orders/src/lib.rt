@@ -27,15 +27,32 @@ fn to_remote(s: Supply) -> Supply
     t
 }
 
-fn put_setting(s: Supply, t: Target, x: u32) -> Supply
+// An accepted figure stored; PV and PC take remote control too. One match does both, so that the record is
+// written once.
+pub fn put_setting(s: Supply, t: Target, x: u32) -> Supply
     ensures { λ r. ⌜ r ≡ remoteBy t (withSetting t x s) ⌝ }
 {
-    let r = settings::with_setting(s, t, x);
+    let mode = remote_mode(s.mode);
+    let mut r = s;
     match t {
-        Target::Pv => to_remote(r),
-        Target::Pc => to_remote(r),
-        Target::Ovp => r,
-        Target::Uvl => r,
+        Target::Pv => {
+            r.pv = x;
+            r.mode = mode;
+            r
+        }
+        Target::Pc => {
+            r.pc = x;
+            r.mode = mode;
+            r
+        }
+        Target::Ovp => {
+            r.ovp = x;
+            r
+        }
+        Target::Uvl => {
+            r.uvl = x;
+            r
+        }
     }
 }
 

@@ -2,9 +2,11 @@
 ghost use mathlib.Core.Path.{_≡_};
 ghost use Rattle.base.specs.Put.{Put};
 ghost use Rattle.acts.specs.Acts.{codeOf, performed};
-ghost use Rattle.texts.specs.Texts.{replyOf};
+ghost use Rattle.texts.specs.Texts.{codeText, replyOf};
 ghost use Rattle.reply.specs.Obeying.{saidOf};
 use supply::Act;
+use supply::Order;
+use supply::Outcome;
 use supply::Query;
 use supply::Supply;
 
@@ -14,40 +16,63 @@ pub struct Obeyed {
     pub next: usize,
 }
 
-// Places what a supply, as it stands before the act, says to an act with this code.
-fn put_said(
-    buf: &mut [u8],
-    at: usize,
-    model: u8,
-    s: Supply,
-    a: Act,
-    code: u8,
-    summed: bool,
-) -> usize
-    requires { ⌜ code ≡ codeOf model s a ⌝ }
-    ensures { λ r. ⌜ Put (now (buf .entry)) at (replyOf summed (saidOf model s a)) r (now (buf .exit)) ⌝ }
+// Says the code of what was done.
+fn say_code(done: Outcome, summed: bool, buf: &mut [u8], at: usize) -> Obeyed
+    ensures does { λ r. ⌜ r .supply ≡ done .supply ⌝ }
+    ensures says { λ r. ⌜ Put (now (buf .entry)) at (replyOf summed (codeText (done .code))) (r .next) (now (buf .exit)) ⌝ }
 {
-    match a {
-        Act::Ask(q) => texts::put_answer_reply(buf, at, answers::answer_to(model, s, q), summed),
-        Act::Obey(_) => texts::put_code_reply(buf, at, code, summed),
-        Act::Lines(_) => texts::put_code_reply(buf, at, code, summed),
-        Act::Sample(_, _) => texts::put_code_reply(buf, at, code, summed),
-        Act::Press(_) => texts::put_code_reply(buf, at, code, summed),
-        Act::Turn(_, _) => texts::put_code_reply(buf, at, code, summed),
-        Act::Nothing => texts::put_code_reply(buf, at, code, summed),
-    }
-}
-
-// A supply obeys an act of a line and says what came of it.
-pub fn obey(model: u8, s: Supply, a: Act, summed: bool, buf: &mut [u8], at: usize) -> Obeyed
-    ensures does { λ r. ⌜ r .supply ≡ performed model s a ⌝ }
-    ensures says { λ r. ⌜ Put (now (buf .entry)) at (replyOf summed (saidOf model s a)) (r .next) (now (buf .exit)) ⌝ }
-{
-    let done = acts::perform(model, s, a);
-    let next = put_said(buf, at, model, s, a, done.code, summed);
+    let next = texts::put_code_reply(buf, at, done.code, summed);
     let after = done.supply;
     Obeyed {
         supply: after,
         next,
+    }
+}
+
+// A query is answered from the supply as it stands.
+fn ask(model: u8, s: Supply, q: Query, summed: bool, buf: &mut [u8], at: usize) -> Obeyed
+    ensures does { λ r. ⌜ r .supply ≡ performed model s (Act.Ask q) ⌝ }
+    ensures says { λ r. ⌜ Put (now (buf .entry)) at (replyOf summed (saidOf model s (Act.Ask q))) (r .next) (now (buf .exit)) ⌝ }
+{
+    let after = acts::asked(model, s, q);
+    let next = texts::put_answer_reply(buf, at, answers::answer_to(model, s, q), summed);
+    Obeyed {
+        supply: after,
+        next,
+    }
+}
+
+// An order is judged by the supply, and its code said.
+fn order(model: u8, s: Supply, o: Order, summed: bool, buf: &mut [u8], at: usize) -> Obeyed
+    ensures does { λ r. ⌜ r .supply ≡ performed model s (Act.Obey o) ⌝ }
+    ensures says { λ r. ⌜ Put (now (buf .entry)) at (replyOf summed (saidOf model s (Act.Obey o))) (r .next) (now (buf .exit)) ⌝ }
+{
+    let done = acts::obey_order(model, s, o);
+    say_code(done, summed, buf, at)
+}
+
+// Any other act is done, and its code said.
+fn other(model: u8, s: Supply, a: Act, summed: bool, buf: &mut [u8], at: usize) -> Obeyed
+    ensures does { λ r. ⌜ r .supply ≡ performed model s a ⌝ }
+    ensures says { λ r. ⌜ Put (now (buf .entry)) at (replyOf summed (codeText (codeOf model s a))) (r .next) (now (buf .exit)) ⌝ }
+{
+    let done = acts::perform(model, s, a);
+    say_code(done, summed, buf, at)
+}
+
+// A supply obeys an act of a line and says what came of it. Queries and orders, which most lines are, go
+// straight to functions of their own: perform would sort them out once more.
+pub fn obey(model: u8, s: Supply, a: Act, summed: bool, buf: &mut [u8], at: usize) -> Obeyed
+    ensures does { λ r. ⌜ r .supply ≡ performed model s a ⌝ }
+    ensures says { λ r. ⌜ Put (now (buf .entry)) at (replyOf summed (saidOf model s a)) (r .next) (now (buf .exit)) ⌝ }
+{
+    match a {
+        Act::Ask(q) => ask(model, s, q, summed, buf, at),
+        Act::Obey(o) => order(model, s, o, summed, buf, at),
+        Act::Lines(_) => other(model, s, a, summed, buf, at),
+        Act::Sample(_, _) => other(model, s, a, summed, buf, at),
+        Act::Press(_) => other(model, s, a, summed, buf, at),
+        Act::Turn(_, _) => other(model, s, a, summed, buf, at),
+        Act::Nothing => other(model, s, a, summed, buf, at),
     }
 }

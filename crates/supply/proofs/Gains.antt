@@ -1,4 +1,4 @@
--- FEVE bit by bit: what an event adds to it, and that an event in which no fault bit rises adds nothing.
+-- FEVE bit by bit: what an event adds to it, and that an event that leaves FLT as it was adds nothing.
 use mathlib.Core.Path.{_≡_, refl, ap, _∙_}
 use mathlib.Core.Bool.{Bool, true, false, not, _&&_, _||_}
 use Prim.Native.Nat.{ℕ, zero, suc, _+_, _-_, _*_, _/_, _%_, _^_, _<_}
@@ -64,7 +64,7 @@ apart x = eq (bitAnd x (255 - x)) 0
 none-common : (x : ℕ) → x < 256 → bitAnd x (255 - x) ≡ 0
 none-common x h = rw (getD-tabulate 256 (λ i. i) x 0 h) at (everywhere apart (tabulate 256 (λ i. i)) 0 tt tt x)
 
--- where no fault bit rises, nothing is gained
-pub settled-idle : (s : Supply) → settled s s ≡ s
+-- an event that leaves FLT as it was gains nothing
+pub settled-idle : (before after : Supply) → fltOf after ≡ fltOf before → settled before after ≡ after
 unfolding settled
-settled-idle s = rw (none-common (fltOf s) (flt-lt s), and-zero-l (s .fena), or-zero-r (s .feve)) refl
+settled-idle before after e = rw (e, none-common (fltOf before) (flt-lt before), and-zero-l (before .fena), or-zero-r (after .feve)) refl

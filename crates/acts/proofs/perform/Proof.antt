@@ -1,4 +1,5 @@
 -- `perform` meets its contract.
+use mathlib.Core.Path.{refl}
 use Rattle.acts.specs.Acts.{codeOf, acted, clearingAct, performed}
 use borrow.Author.Needs.{needs}
 use Rattle.acts.proofs.perform.Statement.{statement}
@@ -16,11 +17,8 @@ accept-requires c κs = search needs
 enum-known-a-2 : tie.Need-enum-known-a-2
 enum-known-a-2 c = search needs
 
-sampled-at-requires : tie.Need-sampled-at-requires
-sampled-at-requires c κs = search needs
-
-accept-requires-2 : tie.Need-accept-requires-2
-accept-requires-2 c κs = search needs
+sampled-requires : tie.Need-sampled-requires
+sampled-requires c κs = search needs
 
 enum-known-a-3 : tie.Need-enum-known-a-3
 enum-known-a-3 c = search needs
@@ -28,8 +26,8 @@ enum-known-a-3 c = search needs
 press-requires : tie.Need-press-requires
 press-requires c κs = search needs
 
-accept-requires-3 : tie.Need-accept-requires-3
-accept-requires-3 c κs = search needs
+accept-requires-2 : tie.Need-accept-requires-2
+accept-requires-2 c κs = search needs
 
 enum-known-a-4 : tie.Need-enum-known-a-4
 enum-known-a-4 c = search needs
@@ -37,8 +35,8 @@ enum-known-a-4 c = search needs
 turn-requires : tie.Need-turn-requires
 turn-requires c κs = search needs
 
-accept-requires-4 : tie.Need-accept-requires-4
-accept-requires-4 c κs = search needs
+accept-requires-3 : tie.Need-accept-requires-3
+accept-requires-3 c κs = search needs
 
 enum-known-a-5 : tie.Need-enum-known-a-5
 enum-known-a-5 c = search needs
@@ -49,48 +47,42 @@ obey-order-requires c κs = search needs
 enum-known-a-6 : tie.Need-enum-known-a-6
 enum-known-a-6 c = search needs
 
-query-clears-requires : tie.Need-query-clears-requires
-query-clears-requires c κs = search needs
-
-clear-feve-requires : tie.Need-clear-feve-requires
-clear-feve-requires c κs = search needs
-
-accept-requires-5 : tie.Need-accept-requires-5
-accept-requires-5 c κs = search needs
+asked-requires : tie.Need-asked-requires
+asked-requires c κs = search needs
 
 enum-told : tie.Need-enum-told
 enum-told c = search needs
 
-accept-requires-6 : tie.Need-accept-requires-6
-accept-requires-6 c κs = search needs
+accept-requires-4 : tie.Need-accept-requires-4
+accept-requires-4 c κs = search needs
 
 returns : tie.Need-returns
 unfolding performed codeOf acted clearingAct
 returns c = rw (c .before .before .before .a .given .1, ← c .before .lines-changed .ensures) (c .accept .ensures)
 
 returns-2 : tie.Need-returns-2
-unfolding performed codeOf acted clearingAct
-returns-2 c = rw (c .before .before .before .a2 .given .1, ← c .before .sampled-at .ensures) (c .accept2 .ensures)
+unfolding codeOf
+returns-2 c = rw (c .before .before .a2 .given .1) (refl, c .sampled .ensures)
 
 returns-3 : tie.Need-returns-3
 unfolding performed codeOf acted clearingAct
-returns-3 c = rw (c .before .before .before .a3 .given .1, ← c .before .press .ensures) (c .accept3 .ensures)
+returns-3 c = rw (c .before .before .before .a3 .given .1, ← c .before .press .ensures) (c .accept2 .ensures)
 
 returns-4 : tie.Need-returns-4
 unfolding performed codeOf acted clearingAct
-returns-4 c = rw (c .before .before .before .a4 .given .1, ← c .before .turn .ensures) (c .accept4 .ensures)
+returns-4 c = rw (c .before .before .before .a4 .given .1, ← c .before .turn .ensures) (c .accept3 .ensures)
 
 returns-5 : tie.Need-returns-5
 unfolding codeOf
 returns-5 c = rw (c .before .before .a5 .given .1) (c .obey-order .ensures)
 
 returns-6 : tie.Need-returns-6
-unfolding performed codeOf acted clearingAct
-returns-6 c = rw (c .before .before .before .before .a6 .given .1, ← c .before .before .query-clears .ensures, ← c .before .clear-feve .ensures) (c .accept5 .ensures)
+unfolding codeOf
+returns-6 c = rw (c .before .before .a6 .given .1) (refl, c .asked .ensures)
 
 returns-7 : tie.Need-returns-7
 unfolding performed codeOf acted clearingAct
-returns-7 c = rw (c .before .enum-told .given .1) (c .accept6 .ensures)
+returns-7 c = rw (c .before .enum-told .given .1) (c .accept4 .ensures)
 
 pub perform-spec : {M : Type 1} → statement M
 perform-spec =
@@ -100,22 +92,19 @@ perform-spec =
     lines-changed-requires
     accept-requires
     enum-known-a-2
-    sampled-at-requires
-    accept-requires-2
+    sampled-requires
     enum-known-a-3
     press-requires
-    accept-requires-3
+    accept-requires-2
     enum-known-a-4
     turn-requires
-    accept-requires-4
+    accept-requires-3
     enum-known-a-5
     obey-order-requires
     enum-known-a-6
-    query-clears-requires
-    clear-feve-requires
-    accept-requires-5
+    asked-requires
     enum-told
-    accept-requires-6
+    accept-requires-4
     returns
     returns-2
     returns-3

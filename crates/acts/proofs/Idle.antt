@@ -1,0 +1,51 @@
+-- Acts that need not go through all three stages: a refused order changes nothing, and by a figure for a setting or a query FEVE
+-- gains nothing.
+use mathlib.Core.Path.{_≡_, refl, sym, _∙_}
+use mathlib.Core.Bool.{Bool, true, false}
+use Prim.Native.Nat.{ℕ, _%_}
+use borrow.Author.Tests.{eq-eqb, ne-eqb}
+use Rattle.base.proofs.Choice.{pick-true, pick-false}
+use Rattle.supply.specs.declared.Supply.{Supply}
+use Rattle.supply.specs.declared.Target.{Target}
+use Rattle.supply.specs.declared.Target.the-variants.{Pv, Pc, Ovp, Uvl}
+use Rattle.supply.specs.declared.Order.{Order}
+use Rattle.supply.specs.declared.Order.the-variants.{Set}
+use Rattle.supply.specs.declared.Query.{Query}
+use Rattle.supply.specs.declared.Act.the-variants.{Obey, Ask}
+use Rattle.supply.specs.Flt.{fltOf}
+use Rattle.supply.proofs.Gains.{settled-idle}
+use Rattle.settings.specs.Settings.{withSetting}
+use Rattle.codes.specs.Codes.{orderCode}
+use Rattle.codes.proofs.Accepted.{set-low}
+use Rattle.orders.specs.Orders.{remote, remoteBy, ordered}
+use Rattle.acts.specs.Acts.{codeOf, clearingQuery, clearingOrder, clearingAct, cleared, acted, performed}
+
+-- a setting, and MODE beside it, show in no bit of FLT
+set-flt : (t : Target) (x : ℕ) (s : Supply) → fltOf (remoteBy t (withSetting t x s)) ≡ fltOf s
+unfolding fltOf remoteBy remote withSetting
+set-flt Pv x s = refl
+set-flt Pc x s = refl
+set-flt Ovp x s = refl
+set-flt Uvl x s = refl
+
+-- nor does FEVE
+cleared-flt : (t : Bool) (s : Supply) → fltOf (cleared t s) ≡ fltOf s
+unfolding fltOf
+cleared-flt true s = refl
+cleared-flt false s = refl
+
+module _ (m : ℕ) (s : Supply) where
+  -- what is refused changes nothing
+  pub refused : (o : Order) {k : ℕ} → k ≡ orderCode m s o → (k ≡ 0 → ⊥) → s ≡ performed m s (Obey o)
+  unfolding performed codeOf
+  refused o e ne = sym (pick-false _ _ _ (ne-eqb (orderCode m s o) 0 (λ z. ne (e ∙ z))))
+
+  -- an accepted figure is stored, and that is all; its low 32 bits are all of it
+  pub set-done : (t : Target) (n : ℕ) → orderCode m s (Set t n) ≡ 0 → remoteBy t (withSetting t (n % 0x100000000) s) ≡ performed m s (Obey (Set t n))
+  unfolding performed codeOf acted clearingAct clearingOrder ordered
+  set-done t n e = rw (set-low m s t n e) (sym (pick-true _ _ _ (eq-eqb (orderCode m s (Set t n)) 0 e) ∙ settled-idle s _ (set-flt t n s)))
+
+  -- a query does no more than clear FEVE, where it is FEVE?
+  pub query-done : (q : Query) → cleared (clearingQuery q) s ≡ performed m s (Ask q)
+  unfolding performed codeOf acted clearingAct
+  query-done q = sym (settled-idle s _ (cleared-flt (clearingQuery q) s))
