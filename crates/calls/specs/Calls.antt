@@ -3,7 +3,7 @@ use Prim.Native.Nat.{ℕ, _≤_}
 use mathlib.Core.Path.{_≡_}
 use mathlib.Core.List.{List, _++_}
 use lib.ListN.{length, drop}
-use Rattle.wire.specs.Wire.{Call, Parsed}
+use Rattle.wire.specs.Wire.{Call}
 use Rattle.wire.specs.Rack.{callOf}
 use Rattle.wire.specs.Rack as wire
 use Rattle.supply.specs.declared.Supply.{Supply}
@@ -36,7 +36,3 @@ callAs bytes b = record { bytes = bytes; room = length b }
 
 abbrev pub CallDoes : Rack → List ℕ → List ℕ → Answer → List ℕ → Type 0
 CallDoes r bytes b a b′ = Answered r b (callOf plainSupply (viewOf r) (callAs bytes b)) a b′
-
--- the same, of bytes read: what the code does once the buffer is known to be long enough
-abbrev pub ReadDoes : Rack → Parsed → List ℕ → Answer → List ℕ → Type 0
-ReadDoes r p b a b′ = Answered r b (wire.answerOf plainSupply (viewOf r) p) a b′

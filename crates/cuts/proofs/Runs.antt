@@ -1,10 +1,12 @@
 -- The rack that fields lead to, fed behind any run, is by its view the rack of a longer run: demand 3 speaks of it too.
-use Prim.Native.Nat.{ℕ, _≤_}
+use Prim.Native.Nat.{ℕ, zero, suc, _+_, _≤_}
+use mathlib.Core.Bool.{Bool, true, false}
 use mathlib.Core.Path.{_≡_, refl, sym, ap, subst, _∙_}
 use mathlib.Core.List.{List, [], _∷_, _++_, append-nil, append-assoc}
 use lib.ListN.{length, drop}
 use Rattle.wire.specs.Wire.{Call}
-use Rattle.wire.specs.Rack.{done, callOf, after, runFrom, run}
+use Rattle.base.specs.Choice.{pick}
+use Rattle.wire.specs.Rack.{refused, done, callOf, after, runFrom, run}
 use Rattle.wire.specs.Rack as wire
 use Rattle.wire.proofs.Lawful.{run-fresh-lawful}
 use Rattle.supply.specs.declared.Supply.{Supply}
@@ -14,9 +16,8 @@ use Rattle.slots.specs.View.{viewOf}
 use Rattle.rack.specs.Demand3.{Leads, Run, setupOf}
 use Rattle.rack.proofs.Isolation.{run-seen}
 use Rattle.rack.proofs.Existence.{packed, view-is, answerAs, through}
-use Rattle.step.specs.Taken.{fieldAt}
-use Rattle.feed.specs.declared.Fed.{Fed}
-use Rattle.feed.specs.Feed.{Works, none, more, fieldsOf, FeedDoes}
+use Rattle.engine.specs.declared.Worked.{Worked}
+use Rattle.engine.specs.Engine.{fieldAt, Ran, ran, afterField, fieldsFrom, fieldsOn, callsAfter, callsFrom, callsOn, fullAt, WorkDoes}
 
 run-more : (v : wire.Rack Supply) (cs : List Call) (c : Call) → runFrom plainSupply v (cs ++ c ∷ []) ≡ after plainSupply (runFrom plainSupply v cs) (callOf plainSupply (runFrom plainSupply v cs) c)
 run-more v [] c = refl
@@ -56,15 +57,39 @@ one-more l cs p q s n t e h = (packed q, run-then l cs (h .0) (h .1) s q n t (rw
 none-more : (l : List ℕ) (cs : List Call) (v : wire.Rack Supply) → Reached l cs v → Reached l (cs ++ []) v
 none-more l cs v h = rw append-nil h
 
-joined : (l : List ℕ) (cs ds : List Call) (c : Call) (q : wire.Rack Supply) → Reached l (cs ++ ds ++ c ∷ []) q → Reached l (cs ++ (ds ++ c ∷ [])) q
-joined l cs ds c q h = rw (← append-assoc cs ds (c ∷ [])) h
+joined : (l : List ℕ) (cs : List Call) (c : Call) (ds : List Call) (q : wire.Rack Supply) → Reached l (cs ++ c ∷ [] ++ ds) q → Reached l (cs ++ (c ∷ ds)) q
+joined l cs c ds q h = rw append-assoc at h
 
--- accepted calls in turn, behind a run, are a longer run
-pub works-run : (l : List ℕ) (cs : List Call) (v : wire.Rack Supply) (s : List ℕ) → Reached l cs v → (q : wire.Rack Supply) (used : ℕ) (t : List ℕ) (w : Works v s q used t) → Reached l (cs ++ fieldsOf w) q
-works-run l cs v s h q used t none = none-more l cs v h
-works-run l cs v s h q used t (more p q′ k n x y w e) = joined l cs (fieldsOf w) (fieldAt (drop k s)) q′ (one-more l (cs ++ fieldsOf w) p q′ (drop k s) n y e (works-run l cs v s h p k x w))
+-- fields in turn, behind a run, are a run that is longer by their calls
+module _ (l : List ℕ) (stop : ℕ → Bool) (s : List ℕ) where
+  run-step : (n : ℕ) (cs : List Call) (v : wire.Rack Supply) (used : ℕ) (said : List ℕ) → Reached l cs v
+      → ((es : List Call) (q : wire.Rack Supply) (k : ℕ) (t : List ℕ) → Reached l es q → Reached l (es ++ callsFrom n stop s q k t) (fieldsFrom n stop s q k t .rack))
+      → (a : wire.Answer Supply) → callOf plainSupply v (fieldAt (drop used s)) ≡ a
+      → Reached l (cs ++ callsAfter (callsFrom n stop s) stop s used said a) (afterField (fieldsFrom n stop s) stop v used said a .rack)
+  run-step n cs v used said h ih (refused c) e = none-more l cs v h
+  run-step n cs v used said h ih (done q k t) e = byStop (stop (length (said ++ t)))
+    where
+      call : Call
+      call = fieldAt (drop used s)
 
--- FIELDS FED BEHIND A RUN ARE A LONGER RUN
-pub feed-run : (l : List ℕ) (calls : List Call) (r : Rack) → Run l calls r → (s b : List ℕ) (at full : ℕ) (f : Fed) (b′ : List ℕ) → (d : FeedDoes r s b at full f b′)
-    → (m : Rack) × Run l (calls ++ fieldsOf (d .works)) m × (viewOf m ≡ viewOf (f .rack))
-feed-run l calls r g s b at full f b′ d = works-run l calls (viewOf r) s (r, g, refl) (viewOf (f .rack)) (f .used) (d .said) (d .works)
+      next : Reached l (cs ++ call ∷ []) q
+      next = one-more l cs v q (drop used s) k t e h
+
+      byStop : (g : Bool) → Reached l (cs ++ call ∷ pick g [] (callsFrom n stop s q (used + k) (said ++ t))) (pick g (ran q (used + k) (said ++ t) 0) (fieldsFrom n stop s q (used + k) (said ++ t)) .rack)
+      byStop true = next
+      byStop false = joined l cs call (callsFrom n stop s q (used + k) (said ++ t)) _ (ih (cs ++ call ∷ []) q (used + k) (said ++ t) next)
+
+  fields-run : (n : ℕ) (cs : List Call) (v : wire.Rack Supply) (used : ℕ) (said : List ℕ) → Reached l cs v → Reached l (cs ++ callsFrom n stop s v used said) (fieldsFrom n stop s v used said .rack)
+  fields-run zero cs v used said h = none-more l cs v h
+  fields-run (suc n) cs v used said h = run-step n cs v used said h (λ es q k t. fields-run n es q k t) (callOf plainSupply v (fieldAt (drop used s))) refl
+
+-- FIELDS WORKED BEHIND A RUN ARE A LONGER RUN
+pub turn-run : (l : List ℕ) (calls : List Call) (r : Rack) → Run l calls r → (stop : ℕ → Bool) (s : List ℕ) (q : wire.Rack Supply) (used : ℕ) (said : List ℕ) (n : ℕ) → ran q used said n ≡ fieldsOn stop (viewOf r) s
+    → Reached l (calls ++ callsOn stop (viewOf r) s) q
+turn-run l calls r g stop s q used said n e =
+    let run = fields-run l stop s (suc (length s)) calls (viewOf r) 0 [] (r, g, refl) in
+    (run .0, run .1, run .2 ∙ ap (λ (R : Ran). R .rack) (sym e))
+
+pub work-run : (l : List ℕ) (calls : List Call) (r : Rack) → Run l calls r → (s b : List ℕ) (at full : ℕ) (w : Worked) (b′ : List ℕ) → WorkDoes r s b at full w b′
+    → Reached l (calls ++ callsOn (fullAt at full) (viewOf r) s) (viewOf (w .rack))
+work-run l calls r g s b at full w b′ d = turn-run l calls r g (fullAt at full) s (viewOf (w .rack)) (w .used) (d .said) (w .code) (d .is)

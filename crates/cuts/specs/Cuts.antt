@@ -4,12 +4,9 @@ use mathlib.Core.Path.{_≡_}
 use mathlib.Core.Logic.{_⊎_}
 use mathlib.Core.List.{List, [], _++_}
 use lib.ListN.{drop}
-use Rattle.wire.specs.Rack.{refused, callOf}
 use Rattle.wire.specs.Rack as wire
 use Rattle.supply.specs.declared.Supply.{Supply}
-use Rattle.plain.specs.Plain.{plainSupply}
-use Rattle.step.specs.Taken.{fieldAt}
-use Rattle.feed.specs.Feed.{Works}
+use Rattle.engine.specs.Engine.{ran, allFields}
 
 -- a refusal that bytes to come may mend: too few for a header, or for the payload; and one that they cannot
 abbrev pub Waits : ℕ → Type 0
@@ -18,13 +15,13 @@ Waits n = (n ≡ 2) ⊎ (n ≡ 5)
 abbrev pub Final : ℕ → Type 0
 Final n = (n ≡ 2 → ⊥) × (n ≡ 5 → ⊥)
 
--- k reads brought the bytes s, the last of them those of b. The bytes of each read are worked behind those that were kept, as calls in
--- turn, up to a call that is refused with n, and what is left is kept; another read comes only where that refusal waits
+-- k reads brought the bytes s, the last of them those of b. The bytes of each read are worked behind those that were kept, as fields in
+-- turn, up to one that is refused with n, and what is left is kept; another read comes only where that refusal waits
 pub data Reads (v : wire.Rack Supply) : (k : ℕ) (s b : List ℕ) (q : wire.Rack Supply) (kept said : List ℕ) (n : ℕ) → Type 0 where
   nothing : Reads v 0 [] [] v [] [] 2
   read :
       (k : ℕ) (s b : List ℕ) (q : wire.Rack Supply) (kept said : List ℕ) (n : ℕ) → Reads v k s b q kept said n → Waits n
-      → (c : List ℕ) (p : wire.Rack Supply) (used : ℕ) (t : List ℕ) (m : ℕ) → Works q (kept ++ c) p used t → callOf plainSupply p (fieldAt (drop used (kept ++ c))) ≡ refused m
+      → (c : List ℕ) (p : wire.Rack Supply) (used : ℕ) (t : List ℕ) (m : ℕ) → ran p used t m ≡ allFields q (kept ++ c)
       → Reads v (k + 1) (s ++ c) c p (drop used (kept ++ c)) (said ++ t) m
 
 -- an input that was read up to a refusal that is final, or to its end
@@ -38,11 +35,10 @@ pub record Ends (v : wire.Rack Supply) (input : List ℕ) (q : wire.Rack Supply)
   pub reads : Reads v count bytes last q kept said n
   pub over : (unread ≡ []) ⊎ Final n
 
--- it was worked as accepted calls in turn on the whole input, up to the call that is refused with n
+-- it was worked as fields in turn on the whole input, up to the one that is refused with n
 pub record Whole (v : wire.Rack Supply) (input : List ℕ) (q : wire.Rack Supply) (said : List ℕ) (n : ℕ) : Type 0 where
   pub used : ℕ
-  pub works : Works v input q used said
-  pub refuses : callOf plainSupply q (fieldAt (drop used input)) ≡ refused n
+  pub is : ran q used said n ≡ allFields v input
 
 -- so two ways to cut one input end in the same rack, have said the same, and are refused alike
 abbrev pub CutsDoNotCount : Type 0

@@ -12,7 +12,8 @@ use borrow.Author.Tests.{ltb-true, ltb-false, leb-true, eqb-true, eqb-false, not
 use Rattle.base.specs.Choice.{pick}
 use Rattle.base.proofs.Choice.{pick-keeps, and-both}
 use Rattle.wire.specs.Wire.{field, Item, byte, event, Parsed, refuse, accept}
-use Rattle.field.specs.Fields.{pairAt, quadAt, tagOf, lengthOf, payloadOf, lengthFits, headerCode, valuesFit, readField}
+use Rattle.supply.specs.declared.Act.the-variants.{Sample}
+use Rattle.field.specs.Fields.{pairAt, quadAt, tagOf, lengthOf, payloadOf, lengthFits, headerCode, isSample, valuesFit, actOf, readField}
 
 -- THE HEAD, a law for each outcome in the order of the tests; tag, n and r are what the code has for the tag, the length and its test
 pub too-short : (b : List ℕ) → length b < 3 → 2 ≡ headerCode b
@@ -78,12 +79,40 @@ header-good b e =
 pub payload-length : (b : List ℕ) → headerCode b ≡ 0 → length (payloadOf b) ≡ lengthOf b
 payload-length b e = length-take-le (lengthOf b) (drop 3 b) (rw length-drop (omega (arith, header-good b e .0)))
 
-pub payload-two : (b : List ℕ) → headerCode b ≡ 0 → (tagOf b ≡ 1 → ⊥) → 2 ≤ length (payloadOf b)
-payload-two b e h = rw (payload-length b e) (other-length (tagOf b) (lengthOf b) h (header-good b e .3))
-
 pub address-byte : (b : List ℕ) → headerCode b ≡ 0 → (tagOf b ≡ 1 → ⊥) → getD (payloadOf b) 0 0 ≡ getD b 3 0
 address-byte b e h =
     getD-take (lengthOf b) (drop 3 b) 0 0 (omega (arith, other-length (tagOf b) (lengthOf b) h (header-good b e .3))) ∙ getD-drop 3 b 0 0
+
+-- A SAMPLE: its head is good, its values are free, and what it asks is in its bytes
+module _ (b : List ℕ) (e : isSample b ≡ true) where
+  sample-parts : (8 ≤ length b) × (tagOf b ≡ 5) × (lengthOf b ≡ 5)
+  unfolding isSample
+  sample-parts = byLength (ltb (length b) 8) refl e
+    where
+      byLength : (t : Bool) → ltb (length b) 8 ≡ t → pick t false (eqb (tagOf b) 5 && eqb (lengthOf b) 5) ≡ true → (8 ≤ length b) × (tagOf b ≡ 5) × (lengthOf b ≡ 5)
+      byLength true h f = absurd (false≢true f)
+      byLength false h f = let t = and-both (eqb (tagOf b) 5) (eqb (lengthOf b) 5) f in (ltb-false (length b) 8 h, eqb-true (tagOf b) 5 (t .0), eqb-true (lengthOf b) 5 (t .1))
+
+  pub sample-tag : tagOf b ≡ 5
+  sample-tag = sample-parts .1
+
+  pub sample-size : lengthOf b ≡ 5
+  sample-size = sample-parts .2
+
+  pub sample-head : headerCode b ≡ 0
+  unfolding headerCode lengthFits
+  sample-head = let long = sample-parts .0 in rw (le-ltb (length b) 3 (omega (arith, long)), sample-tag, sample-size, le-ltb (length b) 8 long) refl
+
+  pub sample-values : valuesFit (tagOf b) (payloadOf b) ≡ true
+  unfolding valuesFit
+  sample-values = rw sample-tag refl
+
+  payload-byte : (i : ℕ) → i < 5 → getD (payloadOf b) i 0 ≡ getD b (3 + i) 0
+  payload-byte i h = getD-take (lengthOf b) (drop 3 b) i 0 (omega (arith, h, sample-size)) ∙ getD-drop 3 b i 0
+
+  pub sample-act : actOf (tagOf b) (payloadOf b) ≡ Sample (pairAt b 4) (pairAt b 6)
+  unfolding actOf
+  sample-act = rw (sample-tag, payload-byte 1 (omega arith), payload-byte 2 (omega arith), payload-byte 3 (omega arith), payload-byte 4 (omega arith)) refl
 
 -- THE OUTCOMES
 module _ (fits : ℕ → Bool) (b : List ℕ) where

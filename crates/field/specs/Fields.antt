@@ -1,7 +1,7 @@
 -- A field: its tag, length and payload, the refusals that it can draw, and what it brings.
 use Prim.Native.Nat.{ℕ, _+_, _*_}
 use mathlib.Core.List.{List, [], _∷_, map}
-use mathlib.Core.Bool.{Bool, true, not, _&&_}
+use mathlib.Core.Bool.{Bool, true, false, not, _&&_}
 use lib.Bits.{bitAnd}
 use lib.Dec.{leb, ltb, eqb}
 use lib.ListN.{length, getD, take, drop}
@@ -45,6 +45,10 @@ headerCode b =
     (pick (not (leb 1 (tagOf b) && leb (tagOf b) 5)) 3
     (pick (not (lengthFits (tagOf b) (lengthOf b))) 4
     (pick (ltb (length b) (3 + lengthOf b)) 5 0)))
+
+-- a whole field of tag 5, of which nothing but its address can be refused
+unfoldable pub isSample : List ℕ → Bool
+isSample b = pick (ltb (length b) 8) false (eqb (tagOf b) 5 && eqb (lengthOf b) 5)
 
 -- keys are 0 to 2, targets 0 to 3, and LINES has no bit but 1, 2, 5 and 7 (0x59 are the others); counts are free
 unfoldable pub valuesFit : ℕ → List ℕ → Bool

@@ -2,7 +2,7 @@
 ghost use mathlib.Core.Path.{_≡_};
 ghost use Prim.Native.Nat.{_+_, _<_, _≤_};
 ghost use lib.ListN.{length, getD, take, drop};
-ghost use Rattle.field.specs.Fields.{pairAt, quadAt, tagOf, lengthOf, lengthFits, headerCode, valuesFit, keyOf, targetOf, actOf};
+ghost use Rattle.field.specs.Fields.{pairAt, quadAt, tagOf, lengthOf, lengthFits, headerCode, isSample, valuesFit, keyOf, targetOf, actOf};
 use supply::Act;
 use supply::Key;
 use supply::Target;
@@ -12,6 +12,12 @@ pub struct Header {
     pub code: u8,
     pub tag: u8,
     pub length: usize,
+}
+
+// The two counts of a sample.
+pub struct Counts {
+    pub volts: u16,
+    pub amps: u16,
 }
 
 // The byte at index i, and 0 past the end.
@@ -87,6 +93,26 @@ pub fn payload(b: &[u8], n: usize) -> &[u8]
 {
     let end = 3 + n;
     &b[3..end]
+}
+
+// A sample stands first, in whole.
+pub fn is_sample(b: &[u8]) -> bool
+    ensures { λ r. ⌜ r ≡ isSample (now (b .entry)) ⌝ }
+{
+    if b.len() < 8 {
+        return false;
+    }
+    (byte_at(b, 0) == 5) & (pair_at(b, 1) == 5)
+}
+
+// The counts of the sample that stands first.
+pub fn sample_counts(b: &[u8]) -> Counts
+    ensures { λ r. ⌜ r ≡ record { volts = pairAt (now (b .entry)) 4; amps = pairAt (now (b .entry)) 6 } ⌝ }
+{
+    Counts {
+        volts: pair_at(b, 4),
+        amps: pair_at(b, 6),
+    }
 }
 
 // Key, target and LINES have values that are listed.

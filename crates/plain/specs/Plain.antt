@@ -48,7 +48,7 @@ abbrev pub grammar : Grammar
 grammar = record { classOf = classOf; least = leastReply; read = readField }
 
 abbrev pub plainSupply : Plain
-plainSupply = record { State = Supply; step = stepOf; reply = replyTo; fresh = fresh; grammar = grammar }
+plainSupply = record { State = Supply; step = stepOf; reply = replyTo; fresh = fresh; grammar = grammar; closing = λ u ss ts. [] }
 
 -- is the entry, taken by a supply in this state, a release of the trip; GOUT 1 and GRST count as OUT 1 and RST
 abbrev pub releasesBy : ℕ → Trip → Supply → Asks → Bool

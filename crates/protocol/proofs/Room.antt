@@ -36,7 +36,7 @@ use Rattle.command.specs.Lines.{hasSum, rightSum, summedPart, heardAs, heardOf}
 use Rattle.texts.specs.Texts.{codeText, wordText, answerText, ending}
 use Rattle.reply.specs.Obeying.{saidOf}
 use Rattle.protocol.specs.Sent.{repliedTo}
-use Rattle.protocol.specs.SentBack.{Sized, Room}
+use Rattle.protocol.specs.SentBack.{Sized, Room, longest}
 
 code-short : (c : ℕ) → length (codeText c) ≤ 3
 unfolding codeText
@@ -157,10 +157,15 @@ body-short m s z u = byEmpty (isEmpty u) refl
     byEmpty true e = omega (arith, empty-reply m s)
     byEmpty false e = said-short m s z (askedBy (commandOf (upperAll (wordOf u))) (parameterText u)) (length u) (query-long u) (let n = eqb-false (length u) 0 e in omega arith)
 
+-- whatever a line asks
+any-short : (m : ℕ) (s : Supply) → Sized s → (a : Asks) (b : Bool) → length (repliedTo m s a b) ≤ longest
+any-short m s z a false = omega (arith, said-short m s z a 3 (λ q. omega arith) (omega arith))
+any-short m s z a true = omega (arith, said-short m s z a 3 (λ q. omega arith) (omega arith), summed-longer m s a)
+
 -- ROOM
 pub room : (m : ℕ) (s : Supply) → Sized s → (t : List ℕ) → Room m s t
 unfolding heardOf
-room m s z t = record { fair = bySum (hasSum t) (rightSum t) refl; spoiled = error-reply m s }
+room m s z t = record { fair = bySum (hasSum t) (rightSum t) refl; short = any-short m s z _ _; spoiled = error-reply m s }
   where
     bySum : (h r : Bool) → hasSum t ≡ h
         → length (repliedTo m s (pick h (pick r (heardAs (asksOf (summedPart t)) true) (heardAs (Error c04) false)) (heardAs (asksOf t) false) .asks) (pick h (pick r (heardAs (asksOf (summedPart t)) true) (heardAs (Error c04) false)) (heardAs (asksOf t) false) .summed)) ≤ 3 * (length t + 1)

@@ -55,11 +55,15 @@ pub record Sized (s : Supply) : Type 0 where
   pub volt-count : s .«volt_count» < 2 ^ 16
   pub amp-count : s .«amp_count» < 2 ^ 16
 
--- bytes of reply for each character of a line and for its CR
+-- bytes of reply for each character of a line and for its CR; and for any line
 abbrev pub rate : ℕ
 rate = 3
 
--- ROOM: a line that is not spoiled draws at most rate × (n + 1) bytes of reply; a spoiled one draws C01 and CR
+abbrev pub longest : ℕ
+longest = 63
+
+-- ROOM: a line that is not spoiled draws at most rate × (n + 1) bytes of reply, and no more than the longest; a spoiled one draws C01 and CR
 pub record Room (m : ℕ) (s : Supply) (t : List ℕ) : Type 0 where
   pub fair : length (repliedTo m s (heardOf t false .asks) (heardOf t false .summed)) ≤ rate * (length t + 1)
+  pub short : length (repliedTo m s (heardOf t false .asks) (heardOf t false .summed)) ≤ longest
   pub spoiled : length (repliedTo m s (heardOf t true .asks) (heardOf t true .summed)) ≡ 4

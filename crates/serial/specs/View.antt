@@ -1,17 +1,26 @@
 -- The line of the code, as the definitions of the shared line see it.
 use Prim.Native.Nat.{ℕ, _-_, _≤_}
 use mathlib.Core.Path.{_≡_}
-use mathlib.Core.List.{[], _∷_, _++_}
-use mathlib.Core.Bool.{true}
+use mathlib.Core.List.{List, [], _∷_, _++_}
+use mathlib.Core.Bool.{Bool, true}
 use lib.Dec.{ltb, eqb}
 use lib.ListN.{length, take}
 use Rattle.base.specs.Choice.{pick}
 use Rattle.wire.specs.Wire.{Wire}
 use Rattle.serial.specs.declared.Line.{Line}
+use Rattle.serial.specs.declared.Counted.{Counted}
+
+-- the line that the code has in parts: the array of its characters, how many of them are kept, whether it is spoiled, the slot selected
+abbrev pub lineOf : List ℕ → ℕ → Bool → ℕ → Line
+lineOf kept count spoiled selected = record { kept = kept; count = count; spoiled = spoiled; selected = selected }
 
 -- the kept characters are the first `count` of the array; what stands behind them is not looked at
 abbrev pub wireOf : Line → Wire
 wireOf l = record { kept = take (l .count) (l .kept); spoiled = l .spoiled; sel = l .selected }
+
+-- what is asked of a rack: that its line has 64 characters at most, as that of every rack has that a fitting list and calls lead to
+abbrev pub Short : Line → Type 0
+Short l = l .count ≤ 64
 
 -- a serial byte that is no CR
 unfoldable pub charOn : Wire → ℕ → Wire
@@ -23,5 +32,10 @@ charOn w b =
 
 -- the line after such a byte: it is the definition's, and still has 64 characters at most
 pub record Typed (l : Line) (b : ℕ) (r : Line) : Type 0 where
-  pub small : r .count ≤ 64
+  pub small : Short r
   pub is : wireOf r ≡ charOn (wireOf l) b
+
+-- such a byte in the code, which has the characters in an array of 64, whatever slot is selected
+pub record CharDoes (kept : List ℕ) (count : ℕ) (spoiled : Bool) (b : ℕ) (kept′ : List ℕ) (r : Counted) : Type 0 where
+  pub same : length kept′ ≡ length kept
+  pub typed : length kept ≡ 64 → count ≤ 64 → (selected : ℕ) → Typed (lineOf kept count spoiled selected) b (lineOf kept′ (r .count) (r .spoiled) selected)

@@ -1,10 +1,8 @@
 // The serial line in code: its kept characters byte by byte, what a line asks at its CR, and the model at an address.
 ghost use mathlib.Core.Path.{_≡_};
-ghost use mathlib.Core.Bool.{true, false};
-ghost use Prim.Native.Nat.{_≤_};
 ghost use Rattle.wire.specs.Wire.{freshWire, modelAt, fitted};
 ghost use Rattle.command.specs.Lines.{heardOf};
-ghost use Rattle.serial.specs.View.{wireOf, Typed};
+ghost use Rattle.serial.specs.View.{wireOf, Short, CharDoes};
 ghost use lib.ListN.{take};
 use command::Heard;
 use wire::Setup;
@@ -19,7 +17,7 @@ pub struct Line {
 
 // Nothing kept, nobody selected.
 pub fn fresh_line() -> Line
-    ensures { λ r. ⌜ (wireOf r ≡ freshWire) × (r .count ≤ 64) ⌝ }
+    ensures { λ r. ⌜ (wireOf r ≡ freshWire) × (Short r) ⌝ }
 {
     Line {
         kept: [0; 64],
@@ -29,53 +27,46 @@ pub fn fresh_line() -> Line
     }
 }
 
+// What a character leaves beside the kept ones: their count, and whether the line is spoiled.
+pub struct Counted {
+    pub count: usize,
+    pub spoiled: bool,
+}
+
 // A serial byte other than CR.
-pub fn take_char(l: Line, b: u8) -> Line
-    ensures { λ r. ⌜ (l .count ≤ 64 → Typed l b r) ⌝ }
+pub fn take_char(kept: &mut [u8; 64], count: usize, spoiled: bool, b: u8) -> Counted
+    ensures { λ r. ⌜ CharDoes (now (kept .entry)) count spoiled b (now (kept .exit)) r ⌝ }
 {
-    let n = l.count;
-    let mut next = l;
     if b == 10 {
-        return next;
+        return Counted { count, spoiled };
     }
     if b == 8 {
-        if 0 < n {
-            next.count = n - 1;
+        if 0 < count {
+            return Counted {
+                count: count - 1,
+                spoiled,
+            };
         }
-        return next;
+        return Counted { count, spoiled };
     }
-    if n < 64 {
-        next.kept[n] = b;
-        next.count = n + 1;
-        return next;
+    if count < 64 {
+        kept[count] = b;
+        return Counted {
+            count: count + 1,
+            spoiled,
+        };
     }
-    next.spoiled = true;
-    next
+    Counted {
+        count,
+        spoiled: true,
+    }
 }
 
 // What the line asks at its CR.
-pub fn hear(l: Line) -> Heard
-    ensures { λ r. ⌜ r ≡ heardOf (take (l .count) (l .kept)) (l .spoiled) ⌝ }
+pub fn hear(kept: &[u8; 64], count: usize, spoiled: bool) -> Heard
+    ensures { λ r. ⌜ r ≡ heardOf (take count (now (kept .entry))) spoiled ⌝ }
 {
-    let kept = l.kept;
-    let n = l.count;
-    let spoiled = l.spoiled;
-    if n < 64 {
-        command::read_line(&kept[..n], spoiled)
-    } else {
-        command::read_line(&kept, spoiled)
-    }
-}
-
-// The line after its CR, with this slot selected.
-pub fn cleared(l: Line, selected: u8) -> Line
-    ensures { λ r. ⌜ (wireOf r ≡ record { kept = take 0 (l .kept); spoiled = false; sel = selected }) × (r .count ≤ 64) ⌝ }
-{
-    let mut next = l;
-    next.count = 0;
-    next.spoiled = false;
-    next.selected = selected;
-    next
+    command::read_line(base::part_to(kept, count), spoiled)
 }
 
 // The model at an address, 255 where none is.

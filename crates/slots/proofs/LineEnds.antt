@@ -3,8 +3,10 @@ use Prim.Native.Nat.{ℕ}
 use mathlib.Core.Path.{_≡_, refl, sym, ap, _∙_}
 use mathlib.Core.Bool.{Bool, true, false, true≢false}
 use mathlib.Core.List.{List, []}
+use native.Mathlib.Omega.{arith}
 use lib.ListN.{getD, set, take}
 use Rattle.base.proofs.Lists.{set-same}
+use Rattle.base.specs.Lists.{eachTo}
 use Rattle.base.specs.Put.{Put}
 use Rattle.wire.specs.declared.Setup.{Setup}
 use Rattle.wire.specs.Wire.{Class, modelAt, fitted, nobody, select, faulty, other, byClass}
@@ -19,52 +21,64 @@ use Rattle.asks.specs.declared.Asks.the-variants.{Everyone, One, Error}
 use Rattle.command.specs.Lines.{heardAs, heardOf}
 use Rattle.texts.specs.Texts.{codeText, replyOf}
 use Rattle.reply.specs.Obeying.{saidOf}
+use Rattle.globals.specs.Globals.{orderedAt}
 use Rattle.serial.specs.declared.Line.{Line}
 use Rattle.serial.specs.View.{wireOf}
 use Rattle.plain.specs.Plain.{classBy, classOf}
-use Rattle.slots.specs.declared.Rack.{Rack}
 use Rattle.slots.specs.declared.Ended.{Ended}
-use Rattle.slots.specs.View.{rackIs, Moves, Ends, Asked, EndsLine, endedBy, Told}
-use Rattle.slots.proofs.Steps.{Cleared, select-fitted, select-empty, code-fitted, code-empty, asked, asked-nobody, in-error, unheard, heard-is}
+use Rattle.slots.specs.View.{rackIs, Moves, clearedTo, Ends, Asked, EndsLine}
+use Rattle.slots.proofs.Steps.{Cleared, told, select-fitted, select-empty, code-fitted, code-empty, asked, asked-nobody, in-error, unheard, heard-is}
 
-abbrev pub endedAs : Line → Supply → ℕ → Ended
-endedAs l s n = record { line = l; supply = s; next = n; all = false; order = Cls }
+abbrev pub endedAs : ℕ → Supply → ℕ → Ended
+endedAs a s n = record { selected = a; supply = s; next = n; all = false; order = Cls }
 
 module _ (u : Setup) (l : Line) (s : Supply) (b : List ℕ) (at : ℕ) where
+  cleared-to : (a : ℕ) → Cleared (clearedTo l a) a
+  cleared-to a = record { small = omega arith; is = refl }
+
   -- the supply stays
-  still : (c : Class) (l′ : Line) (n : ℕ) (b′ : List ℕ) → ((ss : List Supply) → Moves (rackIs ss l u) (byClass u (wireOf l) c) (rackIs ss l′ u) b at n b′) → Ends u l s c (endedAs l′ s n) b at b′
-  still c l′ n b′ m ss k e f =
+  still : (c : Class) (a n : ℕ) (b′ : List ℕ) → ((ss : List Supply) → Moves (rackIs ss l u) (byClass u (wireOf l) c) (rackIs ss (clearedTo l a) u) b at n b′) → Ends u l s c (endedAs a s n) b at b′
+  still c a n b′ m ss k e f =
       rw (set-same ss k s (fresh 255) e) (m ss)
 
-  pub ends-select : (a : ℕ) (t : List ℕ) (l′ : Line) (n : ℕ) (b′ : List ℕ) → fitted u a ≡ true → Cleared l′ a → Put b at t n b′ → Ends u l s (select a t) (endedAs l′ s n) b at b′
-  ends-select a t l′ n b′ f c p = still (select a t) l′ n b′ (λ ss. select-fitted (rackIs ss l u) b at a t l′ n b′ f c p)
+  pub ends-select : (a : ℕ) (t : List ℕ) (n : ℕ) (b′ : List ℕ) → fitted u a ≡ true → Put b at t n b′ → Ends u l s (select a t) (endedAs a s n) b at b′
+  ends-select a t n b′ f p = still (select a t) a n b′ (λ ss. select-fitted (rackIs ss l u) b at a t (clearedTo l a) n b′ f (cleared-to a) p)
 
-  pub ends-select-empty : (a : ℕ) (t : List ℕ) (l′ : Line) → fitted u a ≡ false → Cleared l′ nobody → Ends u l s (select a t) (endedAs l′ s at) b at b
-  ends-select-empty a t l′ f c = still (select a t) l′ at b (λ ss. select-empty (rackIs ss l u) b at a t l′ f c)
+  pub ends-select-empty : (a : ℕ) (t : List ℕ) → fitted u a ≡ false → Ends u l s (select a t) (endedAs nobody s at) b at b
+  ends-select-empty a t f = still (select a t) nobody at b (λ ss. select-empty (rackIs ss l u) b at a t (clearedTo l nobody) f (cleared-to nobody))
 
-  pub ends-code : (t : List ℕ) (l′ : Line) (n : ℕ) (b′ : List ℕ) → fitted u (l .selected) ≡ true → Cleared l′ (l .selected) → Put b at t n b′ → Ends u l s (faulty t) (endedAs l′ s n) b at b′
-  ends-code t l′ n b′ f c p = still (faulty t) l′ n b′ (λ ss. code-fitted (rackIs ss l u) b at t l′ n b′ f c p)
+  pub ends-unheard : (a : ℕ) → l .selected ≡ a → Ends u l s (faulty []) (endedAs a s at) b at b
+  ends-unheard a is = rw (← is) (still (faulty []) (l .selected) at b (λ ss. unheard (rackIs ss l u) b at (clearedTo l (l .selected)) (cleared-to (l .selected))))
 
-  pub ends-code-empty : (t : List ℕ) (l′ : Line) → fitted u (l .selected) ≡ false → Cleared l′ (l .selected) → Ends u l s (faulty t) (endedAs l′ s at) b at b
-  ends-code-empty t l′ f c = still (faulty t) l′ at b (λ ss. code-empty (rackIs ss l u) b at t l′ f c)
+  -- a is the slot selected
+  module _ (a : ℕ) (is : l .selected ≡ a) where
+    abbrev c : Cleared (clearedTo l (l .selected)) (l .selected)
+    c = cleared-to (l .selected)
 
-  pub ends-unheard : (l′ : Line) → Cleared l′ (l .selected) → Ends u l s (faulty []) (endedAs l′ s at) b at b
-  ends-unheard l′ c = still (faulty []) l′ at b (λ ss. unheard (rackIs ss l u) b at l′ c)
+    here : (t : Bool) → fitted u a ≡ t → fitted u (l .selected) ≡ t
+    here t f = rw is f
 
-  pub ends-asked : (a : Act) (t : Bool) (m : ℕ) (y : Supply) (l′ : Line) (n : ℕ) (b′ : List ℕ)
-      → fitted u (l .selected) ≡ true → m ≡ modelAt u (l .selected) → y ≡ performed m s a → Cleared l′ (l .selected)
-      → Put b at (replyOf t (saidOf m s a)) n b′ → Asked u l s a t (endedAs l′ y n) b at b′
-  ends-asked a t m y l′ n b′ f em ey c p h ss k e g =
-      let ek : k ≡ l .selected = g f in
-      let there : s ≡ getD ss (l .selected) (fresh 255) = rw ek at e in
-      rw ek (asked (rackIs ss l u) b at a t m s y (set ss (l .selected) y) l′ n b′ f em there ey refl c p h)
+    pub ends-code : (t : List ℕ) (n : ℕ) (b′ : List ℕ) → fitted u a ≡ true → Put b at t n b′ → Ends u l s (faulty t) (endedAs a s n) b at b′
+    ends-code t n b′ f p = rw (← is) (still (faulty t) (l .selected) n b′ (λ ss. code-fitted (rackIs ss l u) b at t (clearedTo l (l .selected)) n b′ (here true f) c p))
 
-  pub ends-nobody : (a : Act) (t : Bool) (l′ : Line) → fitted u (l .selected) ≡ false → Cleared l′ (l .selected) → Asked u l s a t (endedAs l′ s at) b at b
-  ends-nobody a t l′ f c h = still other l′ at b (λ ss. asked-nobody (rackIs ss l u) b at l′ f c)
+    pub ends-code-empty : (t : List ℕ) → fitted u a ≡ false → Ends u l s (faulty t) (endedAs a s at) b at b
+    ends-code-empty t f = rw (← is) (still (faulty t) (l .selected) at b (λ ss. code-empty (rackIs ss l u) b at t (clearedTo l (l .selected)) (here false f) c))
+
+    pub ends-asked : (x : Act) (t : Bool) (m : ℕ) (y : Supply) (n : ℕ) (b′ : List ℕ)
+        → fitted u a ≡ true → m ≡ modelAt u a → y ≡ performed m s x
+        → Put b at (replyOf t (saidOf m s x)) n b′ → Asked u l s x t (endedAs a y n) b at b′
+    ends-asked x t m y n b′ f em ey p h ss k e g =
+        let ek : k ≡ l .selected = g (here true f) in
+        let there : s ≡ getD ss (l .selected) (fresh 255) = rw ek at e in
+        let model : m ≡ modelAt u (l .selected) = rw is em in
+        rw (ek, ← is) (asked (rackIs ss l u) b at x t m s y (set ss (l .selected) y) (clearedTo l (l .selected)) n b′ (here true f) model there ey refl c p h)
+
+    pub ends-nobody : (x : Act) (t : Bool) → fitted u a ≡ false → Asked u l s x t (endedAs a s at) b at b
+    ends-nobody x t f h = rw (← is) (still other (l .selected) at b (λ ss. asked-nobody (rackIs ss l u) b at (clearedTo l (l .selected)) (here false f) c))
 
   -- a line in error is one to the slot selected, which draws its code
   ends-error : (c : ℕ) (t : Bool) (e : Ended) (b′ : List ℕ) → heardOf (take (l .count) (l .kept)) (l .spoiled) ≡ heardAs (Error c) t → Ends u l s (faulty (replyOf t (codeText c))) e b at b′ → Ends u l s other e b at b′
-  ends-error c t e b′ h m ss k i f = in-error (rackIs ss l u) b at c t (rackIs (set ss k (e .supply)) (e .line) u) (e .next) b′ h (m ss k i f)
+  ends-error c t e b′ h m ss k i f = in-error (rackIs ss l u) b at c t (rackIs (set ss k (e .supply)) (clearedTo l (e .selected)) u) (e .next) b′ h (m ss k i f)
 
   -- by what was heard
   module _ (h : Heard) (is : h ≡ heardOf (take (l .count) (l .kept)) (l .spoiled)) where
@@ -78,10 +92,7 @@ module _ (u : Setup) (l : Line) (s : Supply) (b : List ℕ) (at : ℕ) where
     pub one-ends : (a : Act) (e : Ended) (b′ : List ℕ) → h .asks ≡ One a → e .all ≡ false → Asked u l s a (h .summed) e b at b′ → EndsLine u l s e b at b′
     one-ends a e b′ q n m = by-class e b′ n (rw q (m (sym is ∙ heard-is h (One a) q)))
 
-    pub all-ends : (o : Order) → h .asks ≡ Everyone o → EndsLine u l s (record { line = l; supply = s; next = at; all = true; order = o }) b at b
-    all-ends o q = (λ n. absurd (true≢false n), λ n. (ap (λ (x : Heard). x .asks) (sym is) ∙ q, refl))
-
--- a line for all, by its class
-pub told-class : (r q : Rack) (o : Order) (b : List ℕ) (at : ℕ) → heardOf (take (r .line .count) (r .line .kept)) (r .line .spoiled) .asks ≡ Everyone o → Told r o q → Moves r (endedBy r) q b at at b
-unfolding classOf
-told-class r q o b at h t = rw h (t h b at)
+    pub all-ends : (o : Order) → h .asks ≡ Everyone o → EndsLine u l s (record { selected = l .selected; supply = s; next = at; all = true; order = o }) b at b
+    unfolding classOf
+    all-ends o q =
+        (λ n. absurd (true≢false n), λ n ss k. rw (← is, q) (told (rackIs ss l u) b at o (eachTo (orderedAt u o) 31 ss) (clearedTo l (l .selected)) k refl (cleared-to (l .selected)) (ap (λ (x : Heard). x .asks) (sym is) ∙ q)))

@@ -9,7 +9,7 @@ use Rattle.base.specs.Choice.{pick}
 use Rattle.base.specs.Put.{Put}
 use Rattle.base.proofs.Put.{put-none}
 use Rattle.wire.specs.declared.Setup.{Setup}
-use Rattle.wire.specs.Wire.{Wire, modelAt, fitted, nobody, line, select, faulty, global, other, all, byClass, byteOn}
+use Rattle.wire.specs.Wire.{Wire, modelAt, fitted, nobody, line, select, faulty, global, other, all, byClass}
 use Rattle.wire.specs.Rack.{deliver}
 use Rattle.base.specs.Lists.{eachTo}
 use Rattle.wire.proofs.ForCode.{deliver-one, deliver-all, deliver-say}
@@ -26,11 +26,9 @@ use Rattle.texts.specs.Texts.{codeText, replyOf}
 use Rattle.reply.specs.Obeying.{saidOf}
 use Rattle.protocol.specs.Sent.{obeyed, repliedTo}
 use Rattle.serial.specs.declared.Line.{Line}
-use Rattle.serial.specs.View.{wireOf, Typed}
+use Rattle.serial.specs.View.{wireOf}
 use Rattle.globals.specs.Globals.{orderedAt}
-use Rattle.serial.proofs.Chars.{char-on}
-use borrow.Author.Tests.{ne-eqb}
-use Rattle.plain.specs.Plain.{plainSupply, grammar, stepOf, replyTo, classBy, classOf}
+use Rattle.plain.specs.Plain.{plainSupply, stepOf, replyTo}
 use Rattle.slots.specs.declared.Rack.{Rack}
 use Rattle.slots.specs.View.{rackIs, Moves}
 
@@ -113,22 +111,6 @@ module _ (r : Rack) (b : List ℕ) (at : ℕ) where
       byFit : (f : Bool) → fitted u (w .sel) ≡ f → Moves r (byClass u w (faulty [])) (rackIs ss l u) b at at b
       byFit true f = code-fitted [] l at b f c (put-none b at)
       byFit false f = code-empty [] l f c
-
-  -- the class of the line, by what was heard
-  pub by-heard : (h : Heard) (q : Rack) (n : ℕ) (b′ : List ℕ) → h ≡ heardOf (w .kept) (w .spoiled) → Moves r (byClass u w (classBy (h .asks) (h .summed))) q b at n b′ → Moves r (byClass u w (classOf (w .kept) (w .spoiled))) q b at n b′
-  unfolding classOf
-  by-heard h q n b′ e m = rw (← e) m
-
-  -- a byte that is no CR
-  pub typed-on : (x : ℕ) (l : Line) → (x ≡ 13 → ⊥) → Typed (r .line) x l → Moves r (byteOn grammar u w x) (rackIs ss l u) b at at b
-  typed-on x l n t =
-      rw (char-on grammar u w x (ne-eqb x 13 n))
-      (record { small = t .small; view = rw (t .is) refl; said = put-none b at })
-
-  -- a CR
-  pub ended-on : (x : ℕ) (q : Rack) (n : ℕ) (b′ : List ℕ) → x ≡ 13 → Moves r (byClass u w (classOf (w .kept) (w .spoiled))) q b at n b′ → Moves r (byteOn grammar u w x) q b at n b′
-  unfolding byteOn
-  ended-on x q n b′ e m = rw e m
 
 pub heard-is : (h : Heard) (a : Asks) → h .asks ≡ a → h ≡ heardAs a (h .summed)
 heard-is h a e = rw (← e) refl

@@ -5,6 +5,8 @@ ghost use Rattle.wire.specs.Wire.{select, faulty};
 ghost use Rattle.supply.specs.declared.Order.the-variants.{Cls};
 ghost use Rattle.texts.specs.Texts.{codeText, replyOf};
 ghost use Rattle.protocol.specs.SentBack.{Sized};
+ghost use Rattle.serial.specs.declared.Line.{Line};
+ghost use Rattle.serial.specs.View.{lineOf};
 ghost use Rattle.slots.specs.View.{Ends, Asked, EndsLine};
 use asks::Asks;
 use serial::Line;
@@ -20,9 +22,10 @@ pub struct Rack {
     pub setup: Setup,
 }
 
-// What a line leaves at its CR: the line, the supply of the slot selected and the index after the reply; or an order that is for all.
+// What a line leaves at its CR, beside a line that keeps nothing: the slot selected now, the supply of the slot selected before and
+// the index after the reply; or an order that is for all.
 pub struct Ended {
-    pub line: Line,
+    pub selected: u8,
     pub supply: Supply,
     pub next: usize,
     pub all: bool,
@@ -37,12 +40,12 @@ pub fn measured(s: Supply) -> Supply
 }
 
 // A line for at most one supply, ended. An order has to stand there; nobody looks at it.
-fn one_ended(line: Line, supply: Supply, next: usize) -> Ended
-    ensures { λ e. ⌜ e ≡ record { line = line; supply = supply; next = next; all = false; order = Cls } ⌝ }
+fn one_ended(selected: u8, supply: Supply, next: usize) -> Ended
+    ensures { λ e. ⌜ e ≡ record { selected = selected; supply = supply; next = next; all = false; order = Cls } ⌝ }
 {
     let order = Order::Cls;
     Ended {
-        line,
+        selected,
         supply,
         next,
         all: false,
@@ -51,86 +54,90 @@ fn one_ended(line: Line, supply: Supply, next: usize) -> Ended
 }
 
 // ADR of an address: the slot selected says OK, an empty one selects nobody.
-fn select_slot(
-    u: Setup,
-    l: Line,
-    s: Supply,
-    a: u8,
-    summed: bool,
-    buf: &mut [u8],
-    at: usize,
-) -> Ended
-    ensures { λ e. ⌜ (e .all ≡ false) × Ends u l s (select a (replyOf summed (codeText 0))) e (now (buf .entry)) at (now (buf .exit)) ⌝ }
+fn select_slot(u: Setup, s: Supply, a: u8, summed: bool, buf: &mut [u8], at: usize) -> Ended
+    ensures { λ e. ⌜ (e .all ≡ false) × ((l : Line) → Ends u l s (select a (replyOf summed (codeText 0))) e (now (buf .entry)) at (now (buf .exit))) ⌝ }
 {
     if serial::has_supply(u, a) {
         let next = texts::put_code_reply(buf, at, 0, summed);
-        one_ended(serial::cleared(l, a), s, next)
+        one_ended(a, s, next)
     } else {
-        one_ended(serial::cleared(l, 31), s, at)
+        one_ended(31, s, at)
     }
 }
 
 // A code said by the slot selected, if there is one; nothing moves.
 fn say_code(
     u: Setup,
-    l: Line,
+    selected: u8,
     s: Supply,
     code: u8,
     summed: bool,
     buf: &mut [u8],
     at: usize,
 ) -> Ended
-    ensures { λ e. ⌜ (e .all ≡ false) × Ends u l s (faulty (replyOf summed (codeText code))) e (now (buf .entry)) at (now (buf .exit)) ⌝ }
+    ensures { λ e. ⌜ (e .all ≡ false) × ((l : Line) → l .selected ≡ selected → Ends u l s (faulty (replyOf summed (codeText code))) e (now (buf .entry)) at (now (buf .exit))) ⌝ }
 {
-    let selected = l.selected;
-    let line = serial::cleared(l, selected);
     if serial::has_supply(u, selected) {
         let next = texts::put_code_reply(buf, at, code, summed);
-        one_ended(line, s, next)
+        one_ended(selected, s, next)
     } else {
-        one_ended(line, s, at)
+        one_ended(selected, s, at)
     }
 }
 
 // A line to the slot selected, if there is one: its supply obeys and replies.
-fn tell_one(u: Setup, l: Line, s: Supply, a: Act, summed: bool, buf: &mut [u8], at: usize) -> Ended
-    ensures { λ e. ⌜ (e .all ≡ false) × Asked u l s a summed e (now (buf .entry)) at (now (buf .exit)) ⌝ }
+fn tell_one(
+    u: Setup,
+    selected: u8,
+    s: Supply,
+    a: Act,
+    summed: bool,
+    buf: &mut [u8],
+    at: usize,
+) -> Ended
+    ensures { λ e. ⌜ (e .all ≡ false) × ((l : Line) → l .selected ≡ selected → Asked u l s a summed e (now (buf .entry)) at (now (buf .exit))) ⌝ }
 {
-    let selected = l.selected;
-    let line = serial::cleared(l, selected);
-    if serial::has_supply(u, selected) {
-        let model = serial::model_at(u, selected);
-        let done = reply::obey(model, s, a, summed, buf, at);
-        let supply = done.supply;
-        let next = done.next;
-        one_ended(line, supply, next)
-    } else {
-        one_ended(line, s, at)
+    let model = serial::model_at(u, selected);
+    if model == 255 {
+        return one_ended(selected, s, at);
     }
+    let done = reply::obey(model, s, a, summed, buf, at);
+    let supply = done.supply;
+    let next = done.next;
+    one_ended(selected, supply, next)
 }
 
-// A line at its CR, given the supply of the slot selected: what comes of it, or the order that it has for all.
-pub fn end_one(u: Setup, l: Line, s: Supply, buf: &mut [u8], at: usize) -> Ended
-    ensures { λ e. ⌜ EndsLine u l s e (now (buf .entry)) at (now (buf .exit)) ⌝ }
+// A line at its CR, given the supply of the slot selected: what comes of it, or the order that it has for all, which is for the
+// caller to carry out.
+pub fn end_one(
+    u: Setup,
+    kept: &[u8; 64],
+    count: usize,
+    spoiled: bool,
+    selected: u8,
+    s: Supply,
+    buf: &mut [u8],
+    at: usize,
+) -> Ended
+    ensures { λ e. ⌜ EndsLine u (lineOf (now (kept .entry)) count spoiled selected) s e (now (buf .entry)) at (now (buf .exit)) ⌝ }
 {
-    let heard = serial::hear(l);
+    let heard = serial::hear(kept, count, spoiled);
     let asks = heard.asks;
     let summed = heard.summed;
     match asks {
-        Asks::Select(a) => select_slot(u, l, s, a, summed, buf, at),
-        Asks::BadSelect(c) => say_code(u, l, s, c, summed, buf, at),
-        Asks::Everyone(order) => Ended {
-            line: l,
-            supply: s,
-            next: at,
-            all: true,
-            order,
-        },
-        Asks::Nobody => {
-            let selected = l.selected;
-            one_ended(serial::cleared(l, selected), s, at)
+        Asks::Select(a) => select_slot(u, s, a, summed, buf, at),
+        Asks::BadSelect(c) => say_code(u, selected, s, c, summed, buf, at),
+        Asks::Everyone(order) => {
+            Ended {
+                selected,
+                supply: s,
+                next: at,
+                all: true,
+                order,
+            }
         }
-        Asks::One(a) => tell_one(u, l, s, a, summed, buf, at),
-        Asks::Error(c) => say_code(u, l, s, c, summed, buf, at),
+        Asks::Nobody => one_ended(selected, s, at),
+        Asks::One(a) => tell_one(u, selected, s, a, summed, buf, at),
+        Asks::Error(c) => say_code(u, selected, s, c, summed, buf, at),
     }
 }

@@ -62,6 +62,7 @@ toy =
       reply = λ m s e. pick (s .trip) (codes "off\r") (codes "on\r");
       fresh = λ m. record { trip = false; fields = 0; entries = m };
       grammar = grammar;
+      closing = λ u ss ts. [];
     }
 
 -- a model 3 in slot 0, a model 5 in slot 2, all others empty

@@ -8,13 +8,15 @@ use Rattle.base.specs.Lists.{tabulate}
 use Rattle.wire.specs.Wire.{Entry, Delivery, one, all, say, Grammar, modelAt, fitted, Wire, Sent, Call, Parsed, refuse, accept, freshWire, parse, scan}
 use Rattle.wire.specs.declared.Setup.{Setup}
 
--- a plain supply: its whole state; what an entry does to the supply of a model, and its reply; its fresh state; and the line's grammar
+-- a plain supply: its whole state; what an entry does to the supply of a model, and its reply; its fresh state; the line's grammar;
+-- and what the slots add behind the replies of a field, from their states before it and after it
 pub record Plain : Type 1 where
   pub State : Type 0
   pub step : ℕ → State → Entry → State
   pub reply : ℕ → State → Entry → List ℕ
   pub fresh : ℕ → State
   pub grammar : Grammar
+  pub closing : Setup → List State → List State → List ℕ
 
 pub record Rack (S : Type 0) : Type 0 where
   pub setup : Setup
@@ -27,7 +29,7 @@ pub data Answer (S : Type 0) : Type 0 where
   done : Rack S → ℕ → List ℕ → Answer S
 
 module _ (M : Plain) where
-  open Plain M using (State, step, reply, fresh, grammar)
+  open Plain M using (State, step, reply, fresh, grammar, closing)
 
   -- HOW SUPPLIES ACT ON EACH OTHER: the state at the address a after a delivery, from the states at all addresses
   abbrev pub next : Setup → (ℕ → State) → Delivery → ℕ → State
@@ -56,8 +58,12 @@ module _ (M : Plain) where
   abbrev pub moved : Rack State → Sent → Rack State
   moved r s = record { setup = r .setup; slots = foldl (deliver (r .setup)) (r .slots) (s .sent); wire = s .wire }
 
+  -- what a field draws that found the slots ss
+  abbrev pub drawnSince : List State → Rack State → Sent → List ℕ
+  drawnSince ss r s = replies (r .setup) (r .slots) (s .sent) ++ closing (r .setup) ss (moved r s .slots)
+
   abbrev pub answered : Rack State → ℕ → Sent → Answer State
-  answered r used s = done (moved r s) used (replies (r .setup) (r .slots) (s .sent))
+  answered r used s = done (moved r s) used (drawnSince (r .slots) r s)
 
   abbrev pub answerOf : Rack State → Parsed → Answer State
   answerOf r (refuse n) = refused n

@@ -1,4 +1,8 @@
 -- `take_char` meets its contract.
+use mathlib.Core.Path.{refl}
+use lib.ListN.{length-set}
+use denote.Ref.{now}
+use Rattle.serial.specs.View.{lineOf}
 use Rattle.serial.proofs.Chars.{typed-lf, typed-back, typed-none, typed-add, typed-full}
 use borrow.Author.Needs.{needs}
 use Rattle.serial.proofs.take_char.Statement.{statement}
@@ -7,30 +11,30 @@ use Rattle.serial.proofs.take_char.Reads as reads
 use Rattle.serial.proofs.take_char.Lts as lts
 
 returns : tie.Need-returns
-returns c = λ h. typed-lf (c .before .args .l) (c .before .args .b) (search needs) h (c .if1 .taken)
+returns c = let z = c .before .args in record { same = refl; typed = λ wide h a. typed-lf (lineOf (now (z .kept)) (z .count) (z .spoiled) a) (z .b) wide h (c .if1 .taken) }
 
-sub-next : tie.Need-sub-next
-sub-next c = search needs
+sub-t7 : tie.Need-sub-t7
+sub-t7 c = search needs
 
 returns-2 : tie.Need-returns-2
-returns-2 c = λ h. typed-back (c .before .before .before .args .l) (c .before .before .before .args .b) (search needs) h (c .before .before .if1 .left) (c .before .if2 .taken)
+returns-2 c = let z = c .before .before .before .args in record { same = refl; typed = λ wide h a. typed-back (lineOf (now (z .kept)) (z .count) (z .spoiled) a) (z .b) wide h (c .before .before .if1 .left) (c .before .if2 .taken) }
 
 returns-3 : tie.Need-returns-3
-returns-3 c = λ h. typed-none (c .before .before .before .args .l) (c .before .before .before .args .b) (search needs) h (c .before .before .if1 .left) (c .before .if2 .taken) (c .if3 .left)
+returns-3 c = let z = c .before .before .before .args in record { same = refl; typed = λ wide h a. typed-none (lineOf (now (z .kept)) (z .count) (z .spoiled) a) (z .b) wide h (c .before .before .if1 .left) (c .before .if2 .taken) (c .if3 .left) }
 
-element-write-next : tie.Need-element-write-next
-element-write-next c = search needs
+element-write-kept : tie.Need-element-write-kept
+element-write-kept c = search needs
 
-add-next : tie.Need-add-next
-add-next c = search needs
+add-t10 : tie.Need-add-t10
+add-t10 c = search needs
 
 returns-4 : tie.Need-returns-4
-returns-4 c = λ h. typed-add (c .before .before .before .args .l) (c .before .before .before .args .b) (search needs) h (c .before .before .if1 .left) (c .before .if2 .left) (c .if4 .taken)
+returns-4 c = let z = c .before .before .before .args in record { same = length-set (z .kept .now) (z .count) (z .b); typed = λ wide h a. typed-add (lineOf (now (z .kept)) (z .count) (z .spoiled) a) (z .b) wide h (c .before .before .if1 .left) (c .before .if2 .left) (c .if4 .taken) }
 
 returns-5 : tie.Need-returns-5
-returns-5 c = λ h. typed-full (c .before .before .before .args .l) (c .before .before .before .args .b) (search needs) h (c .before .before .if1 .left) (c .before .if2 .left) (c .if4 .left)
+returns-5 c = let z = c .before .before .before .args in record { same = refl; typed = λ wide h a. typed-full (lineOf (now (z .kept)) (z .count) (z .spoiled) a) (z .b) wide h (c .before .before .if1 .left) (c .before .if2 .left) (c .if4 .left) }
 
 pub take-char-spec : {M : Type 1} → statement M
 take-char-spec =
     tie.close
-    (tie.spec returns sub-next returns-2 returns-3 element-write-next add-next returns-4 returns-5)
+    (tie.spec returns sub-t7 returns-2 returns-3 element-write-kept add-t10 returns-4 returns-5)

@@ -7,13 +7,9 @@ use Rattle.slots.proofs.say_code.Statement.{statement}
 use Rattle.slots.proofs.say_code.Tie as tie
 use Rattle.slots.proofs.say_code.Reads as reads
 use Rattle.slots.proofs.say_code.Lts as lts
-use Rattle.texts.proofs.put_code_reply.Reads as put-code-reply-reads
-use Rattle.serial.proofs.cleared.Reads as cleared-reads
 use Rattle.serial.proofs.has_supply.Reads as has-supply-reads
 use Rattle.slots.proofs.one_ended.Reads as one-ended-reads
-
-cleared-requires : tie.Need-cleared-requires
-cleared-requires c κs = search needs
+use Rattle.texts.proofs.put_code_reply.Reads as put-code-reply-reads
 
 has-supply-requires : tie.Need-has-supply-requires
 has-supply-requires c κs = search needs
@@ -32,19 +28,18 @@ same-length c = search needs
 
 returns : tie.Need-returns
 returns c =
-    let z = c .before .before .before .before .before .before .before .before .before .args in
-    rw (c .one-ended .ensures) (refl, ends-code (z .u) (z .l) (z .s) (now (z .buf)) (z .at) _ _ _ _ (sym (c .before .before .before .before .before .before .has-supply .ensures) ∙ c .before .before .before .before .before .if1 .taken) (record { small = c .before .before .before .before .before .before .before .cleared .ensures .1; is = c .before .before .before .before .before .before .before .cleared .ensures .0 }) (c .before .before .before .put-code-reply .ensures))
+    let z = c .before .before .before .before .before .before .before .before .args in
+    rw (c .one-ended .ensures) (refl, λ l e. ends-code (z .u) l (z .s) (now (z .buf)) (z .at) (z .selected) e _ _ _ (sym (c .before .before .before .before .before .before .has-supply .ensures) ∙ c .before .before .before .before .before .if1 .taken) (c .before .before .before .put-code-reply .ensures))
 
 returns-2 : tie.Need-returns-2
 returns-2 c =
-    let z = c .before .before .before .before .before .args in
-    rw (c .one-ended2 .ensures) (refl, ends-code-empty (z .u) (z .l) (z .s) (now (z .buf)) (z .at) _ _ (sym (c .before .before .has-supply .ensures) ∙ c .before .if1 .left) (record { small = c .before .before .before .cleared .ensures .1; is = c .before .before .before .cleared .ensures .0 }))
+    let z = c .before .before .before .before .args in
+    rw (c .one-ended2 .ensures) (refl, λ l e. ends-code-empty (z .u) l (z .s) (now (z .buf)) (z .at) (z .selected) e _ (sym (c .before .before .has-supply .ensures) ∙ c .before .if1 .left))
 
 pub say-code-spec : {M : Type 1} → statement M
 say-code-spec =
     tie.close
     (tie.spec
-    cleared-requires
     has-supply-requires
     put-code-reply-requires
     one-ended-requires

@@ -1,0 +1,5 @@
+pub mod Spent
+pub mod Answers
+pub mod Stands
+pub mod Fields
+pub mod Turns

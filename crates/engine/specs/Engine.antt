@@ -1,0 +1,81 @@
+-- FIELDS IN TURN, up to a refusal or a full buffer: one function, and what the code does by it.
+use Prim.Native.Nat.{ℕ, zero, suc, _+_}
+use mathlib.Core.Path.{_≡_}
+use mathlib.Core.Bool.{Bool, false, not}
+use mathlib.Core.List.{List, [], _∷_, _++_}
+use lib.Dec.{ltb}
+use lib.ListN.{length, drop}
+use Rattle.base.specs.Choice.{pick}
+use Rattle.base.specs.Put.{Put}
+use Rattle.wire.specs.Wire.{Call, refuse, fitted}
+use Rattle.wire.specs.Rack.{refused, done, callOf}
+use Rattle.wire.specs.Rack as wire
+use Rattle.supply.specs.declared.Supply.{Supply}
+use Rattle.field.specs.Fields.{readField}
+use Rattle.plain.specs.Plain.{plainSupply, leastReply}
+use Rattle.slots.specs.declared.Rack.{Rack}
+use Rattle.slots.specs.View.{viewOf, Able}
+use Rattle.engine.specs.declared.Worked.{Worked}
+
+-- the call that works the first field of the bytes
+abbrev pub fieldAt : List ℕ → Call
+fieldAt s = record { bytes = s; room = leastReply }
+
+-- fields worked: the rack after them, the bytes that they had, what they said, and the number of the refusal of the next one, or 0
+pub record Ran : Type 0 where
+  pub rack : wire.Rack Supply
+  pub used : ℕ
+  pub said : List ℕ
+  pub code : ℕ
+
+abbrev pub ran : wire.Rack Supply → ℕ → List ℕ → ℕ → Ran
+ran v used said code = record { rack = v; used = used; said = said; code = code }
+
+-- a field behind those that were worked: refused, it ends them; else they go on, unless what they said by now is to stop them
+abbrev pub afterField : (wire.Rack Supply → ℕ → List ℕ → Ran) → (ℕ → Bool) → wire.Rack Supply → ℕ → List ℕ → wire.Answer Supply → Ran
+afterField go stop v used said (refused n) = ran v used said n
+afterField go stop v used said (done q k t) = pick (stop (length (said ++ t))) (ran q (used + k) (said ++ t) 0) (go q (used + k) (said ++ t))
+
+-- at most n fields of the bytes s, behind those that used `used` of them and said `said`
+abbrev pub fieldsFrom : ℕ → (ℕ → Bool) → List ℕ → wire.Rack Supply → ℕ → List ℕ → Ran
+fieldsFrom zero stop s v used said = ran v used said 0
+fieldsFrom (suc n) stop s v used said = afterField (fieldsFrom n stop s) stop v used said (callOf plainSupply v (fieldAt (drop used s)))
+
+-- FIELDS IN TURN on the rack v: more than there are bytes there cannot be
+abbrev pub fieldsOn : (ℕ → Bool) → wire.Rack Supply → List ℕ → Ran
+fieldsOn stop v s = fieldsFrom (suc (length s)) stop s v 0 []
+
+-- THE CALLS that fields in turn are: one for each that was accepted
+abbrev pub callsAfter : (wire.Rack Supply → ℕ → List ℕ → List Call) → (ℕ → Bool) → List ℕ → ℕ → List ℕ → wire.Answer Supply → List Call
+callsAfter go stop s used said (refused n) = []
+callsAfter go stop s used said (done q k t) = fieldAt (drop used s) ∷ pick (stop (length (said ++ t))) [] (go q (used + k) (said ++ t))
+
+abbrev pub callsFrom : ℕ → (ℕ → Bool) → List ℕ → wire.Rack Supply → ℕ → List ℕ → List Call
+callsFrom zero stop s v used said = []
+callsFrom (suc n) stop s v used said = callsAfter (callsFrom n stop s) stop s used said (callOf plainSupply v (fieldAt (drop used s)))
+
+abbrev pub callsOn : (ℕ → Bool) → wire.Rack Supply → List ℕ → List Call
+callsOn stop v s = callsFrom (suc (length s)) stop s v 0 []
+
+-- all fields, up to the one that is refused, at the latest for want of bytes
+abbrev pub never : ℕ → Bool
+never n = false
+
+abbrev pub allFields : wire.Rack Supply → List ℕ → Ran
+allFields v s = fieldsOn never v s
+
+-- replies from index at of a buffer on, up to the index full
+abbrev pub fullAt : ℕ → ℕ → ℕ → Bool
+fullAt at full n = not (ltb (at + n) full)
+
+-- the rack, the bytes used and the code are those of fields in turn, and what they said stands from index at of the buffer on, all of it
+pub record WorkDoes (r : Rack) (s b : List ℕ) (at full : ℕ) (w : Worked) (b′ : List ℕ) : Type 0 where
+  pub small : Able (w .rack)
+  pub said : List ℕ
+  pub is : ran (viewOf (w .rack)) (w .used) said (w .code) ≡ fieldsOn (fullAt at full) (viewOf r) s
+  pub put : Put b at said (w .next) b′
+  pub whole : w .next ≡ at + length said
+
+-- of any rack: where the first field is refused, all stays as it was
+abbrev pub RefusedFirst : Rack → List ℕ → List ℕ → ℕ → Worked → List ℕ → Type 0
+RefusedFirst r s b at w b′ = (n : ℕ) → readField (fitted (r .setup)) s ≡ refuse n → (w ≡ record { rack = r; used = 0; next = at; code = n }) × (b′ ≡ b)

@@ -1,0 +1,102 @@
+// Field after field of lent bytes, worked piece by piece, the slots changed where they stand.
+ghost use Prim.Native.Nat.{_≤_, _+_};
+ghost use lib.ListN.{length};
+ghost use Rattle.plain.specs.Plain.{leastReply};
+ghost use Rattle.slots.specs.View.{Able};
+ghost use Rattle.engine.specs.Engine.{RefusedFirst, WorkDoes};
+use serial::Line;
+use slots::Rack;
+
+// Fields worked: the rack after them, the bytes that they had, the index after their replies, and the number of the refusal of
+// the field behind them, or 0.
+pub struct Worked {
+    pub rack: Rack,
+    pub used: usize,
+    pub next: usize,
+    pub code: u8,
+}
+
+// Works fields one after the other until one is refused, or their replies, which begin at index `at` of the buffer, reach the
+// index `full`; at least one, so that with `full` at `at` it is one alone.
+pub fn work(r: Rack, s: &[u8], out: &mut [u8], at: usize, full: usize) -> Worked
+    ensures refuses { λ w. ⌜ RefusedFirst r (now (s .entry)) (now (out .entry)) at w (now (out .exit)) ⌝ }
+    ensures works { λ w. ⌜ (Able r → at ≤ full → full + leastReply ≤ length (now (out .entry)) → WorkDoes r (now (s .entry)) (now (out .entry)) at full w (now (out .exit))) ⌝ }
+{
+    let mut rack = r;
+    let line = r.line;
+    let mut kept = line.kept;
+    let mut count = line.count;
+    let mut spoiled = line.spoiled;
+    let mut selected = line.selected;
+    let mut used = 0;
+    let mut next = at;
+    let mut left = 0;
+    let mut code = 0;
+    let mut going = true;
+    while going {
+        let rest = base::part_from(s, used);
+        let setup = rack.setup;
+        let model = pieces::sample_model(setup, rest, left);
+        if model != 255 {
+            let k = field::byte_at(rest, 3) as usize;
+            let supply = pieces::take_sample(model, rack.slots[k], rest);
+            rack.slots[k] = supply;
+            used += 8;
+            going = next < full;
+        } else if pieces::is_serial(rest, left) {
+            let k = pieces::slot_or_first(setup, selected);
+            let p = pieces::take_serial(
+                setup,
+                &mut kept,
+                count,
+                spoiled,
+                selected,
+                rack.slots[k],
+                rest,
+                left,
+                out,
+                next,
+            );
+            count = p.count;
+            spoiled = p.spoiled;
+            selected = p.selected;
+            next = p.next;
+            left = p.left;
+            code = p.code;
+            used += p.used;
+            going = (code == 0) & ((0 < left) | (next < full));
+            if p.all {
+                let order = p.order;
+                let slots = globals::order_all(setup, rack.slots, order);
+                rack.slots = slots;
+            } else {
+                let supply = p.supply;
+                rack.slots[k] = supply;
+            }
+        } else if rest.len() < 3 {
+            code = 2;
+            going = false;
+        } else {
+            let k = pieces::slot_or_first(setup, field::byte_at(rest, 3));
+            let e = pieces::take_event(setup, rack.slots[k], rest);
+            let supply = e.supply;
+            rack.slots[k] = supply;
+            code = e.code;
+            used += e.used;
+            going = (code == 0) & (next < full);
+        }
+    }
+    let line = Line {
+        kept,
+        count,
+        spoiled,
+        selected,
+    };
+    rack.line = line;
+    Worked {
+        rack,
+        used,
+        next,
+        code,
+    }
+}

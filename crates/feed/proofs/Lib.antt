@@ -1,3 +1,0 @@
-pub mod Spent
-pub mod Works
-pub mod Steps

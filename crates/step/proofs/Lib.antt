@@ -1,3 +1,0 @@
-pub mod Chars
-pub mod Fields
-pub mod Reached
