@@ -1,24 +1,30 @@
 -- WHAT THE PROGRAM DOES WITH ITS INPUT: the fields of the bytes that it has are worked as calls in turn work them, up to the first
--- that is refused, at the latest for want of bytes; and it reads on where more bytes may mend that.
-use Prim.Native.Nat.{ℕ, _-_, _^_, _<_}
+-- that is refused, at the latest for want of bytes; and it reads on where more bytes may mend that. That what they said is written is
+-- not said here: the contract of a write does not speak of its bytes.
+use Prim.Native.Nat.{ℕ, _-_, _^_, _≤_, _<_}
 use mathlib.Core.Path.{_≡_}
-use mathlib.Core.Bool.{false}
 use mathlib.Core.Logic.{_⊎_}
 use mathlib.Core.List.{List, []}
+use lib.Dec.{ltb}
+use lib.ListN.{length, take, drop}
 use Rattle.wire.specs.Rack as wire
 use Rattle.supply.specs.declared.Supply.{Supply}
 use Rattle.slots.specs.declared.Rack.{Rack}
 use Rattle.slots.specs.View.{viewOf}
-use Rattle.turn.specs.declared.Worked.{Worked}
-use Rattle.turn.specs.Turn.{FieldsDo}
 use Rattle.cuts.specs.Cuts.{Final, Reads}
+use Rattle.controller.specs.declared.Block.{Block}
 
--- of the bytes that are there: the rack and the bytes used are those of accepted calls, and the code is that of the refusal behind
--- them. That what they said is written is not said here: the contract of a write does not speak of its bytes
-pub record AllWorked (r : Rack) (s : List ℕ) (w : Worked) : Type 0 where
-  pub said : List ℕ
-  pub fields : FieldsDo r s w said
-  pub no-more : w .more ≡ false
+-- the bytes that are there and not worked yet
+abbrev pub unworked : List ℕ → Block → List ℕ
+unworked room b = drop (b .from) (take (b .end) room)
+
+-- a read: the bytes that were kept stand first, and what it brought behind them
+pub record Refilled (kept room : List ℕ) (b n : Block) : Type 0 where
+  pub from-is : n .from ≡ 0
+  pub within : n .end ≤ length room
+  pub first : take (length kept) (take (n .end) room) ≡ kept
+  pub brought-is : n .brought ≡ ltb (length kept) (n .end)
+  pub reads-is : n .reads ≡ b .reads - 1
 
 -- the number to be told at the end: none where no byte is left over, else that of the refusal. What ends it is a refusal that no byte
 -- can mend, a read that brought nothing, or the last of the reads that it may make. Which bytes the reads bring is not known here

@@ -1,15 +1,15 @@
 // The program: standard input brings a fitting list and then fields; what they draw goes to standard output, its lines ended
 // by LF. A field is answered as soon as its last byte is there. A refusal is printed and ends the program.
 ghost use mathlib.Core.Path.{_≡_};
-ghost use mathlib.Core.Bool.{_||_};
-ghost use lib.Dec.{eqb};
-ghost use Prim.Native.Nat.{_≤_, _<_};
-ghost use lib.ListN.{length, take, drop};
-ghost use Rattle.controller.specs.Input.{AllWorked, InputDoes};
+ghost use Prim.Native.Nat.{_<_};
+ghost use lib.ListN.{length};
+ghost use Rattle.slots.specs.View.{Able};
+ghost use Rattle.controller.specs.Input.{InputDoes, unworked, Refilled};
 use libc::STDIN_FILENO;
-use libc::STDOUT_FILENO;
 use slots::Rack;
-use turn::Worked;
+
+// Replies wait for each other up to this index of their buffer of 65,536 bytes; behind it there is room for those of any field.
+const FULL: usize = 61_440;
 
 // The bytes of a fitting list.
 const LIST: usize = 31;
@@ -17,78 +17,59 @@ const LIST: usize = 31;
 // More reads than any run makes.
 const READS: u64 = u64::MAX;
 
-// A field that is cut off may be waiting for its other bytes.
-fn waits(code: u8) -> bool
-    ensures { λ r. ⌜ r ≡ (eqb code 2 || eqb code 5) ⌝ }
+// The bytes that are there stand before the index `end` of their room, and those before the index `from` are worked; whether the last
+// read brought any, and how many reads may still be made.
+struct Block {
+    from: usize,
+    end: usize,
+    brought: bool,
+    reads: u64,
+}
+
+// Where fields were worked up to a refusal: keeps the bytes that are left, and reads behind them.
+fn refill(room: &mut [u8], b: Block, code: u8) -> Block
+    requires { ⌜ ((code ≡ 0 → ⊥) → (length (unworked (now room) b) < length (now room)) × (0 < b .reads)) ⌝ }
+    ensures { λ n. ⌜ (code ≡ 0 → (n ≡ b) × (now (room .exit) ≡ now (room .entry))) × ((code ≡ 0 → ⊥) → Refilled (unworked (now (room .entry)) b) (now (room .exit)) b n) ⌝ }
 {
-    (code == 2) | (code == 5)
-}
-
-fn say_refusal(code: u8) {
-    io::write_all(STDOUT_FILENO, b"refused ");
-    io::print_decimal(STDOUT_FILENO, code as u64);
-    io::write_all(STDOUT_FILENO, b"\n");
-}
-
-// Writes the replies that wait before an index.
-fn write_out(out: &mut [u8], n: usize) {
-    buffers::end_lines(out, n);
-    io::write_all(STDOUT_FILENO, base::part_to(out, n));
-}
-
-// Works the fields of the bytes until a call refuses, at the latest for want of bytes, and writes the replies of each turn.
-fn take_fields(r: Rack, s: &[u8], reply: &mut [u8], out: &mut [u8]) -> Worked
-    requires { ⌜ (r .line .count ≤ 64) × (length (now reply) ≡ 4096) × (length (now out) ≡ 65536) ⌝ }
-    ensures { λ w. ⌜ AllWorked r (now (s .entry)) w ⌝ }
-{
-    let mut w = Worked {
-        rack: r,
-        used: 0,
-        next: 0,
-        code: 0,
-        more: true,
-    };
-    let mut used = 0;
-    while w.more {
-        let rack = w.rack;
-        w = turn::work(rack, base::part_from(s, used), reply, out);
-        write_out(out, w.next);
-        used += w.used;
+    if code == 0 {
+        return b;
     }
-    w.used = used;
-    w
+    let kept = buffers::keep_rest(room, b.from, b.end);
+    let end = console::take_block(room, kept);
+    Block {
+        from: 0,
+        end,
+        brought: kept < end,
+        reads: b.reads - 1,
+    }
 }
 
-// Reads what is there behind the bytes that are kept; their number stays where no byte comes.
-fn take_block(room: &mut [u8], kept: usize) -> usize
-    requires { ⌜ kept < length (now room) ⌝ }
-    ensures { λ n. ⌜ (take kept (now (room .exit)) ≡ take kept (now (room .entry))) × (kept ≤ n) × (n ≤ length (now (room .exit))) ⌝ }
-{
-    let free = &mut room[kept..];
-    let got = libc::read(STDIN_FILENO, free);
-    kept + io::count(got, free)
-}
-
-// Works the input to its end, or to the first refusal, and tells its number, or 0.
-fn take_input(r: Rack, room: &mut [u8], reply: &mut [u8], out: &mut [u8]) -> u8
-    requires { ⌜ (r .line .count ≤ 64) × (length (now reply) ≡ 4096) × (length (now out) ≡ 65536) × (length (now room) ≡ 65536) ⌝ }
+// Works the input to its end, or to the first refusal, and tells its number, or 0. The replies of each turn are written.
+fn take_input(r: Rack, room: &mut [u8], out: &mut [u8]) -> u8
+    requires { ⌜ Able r × (length (now out) ≡ 65536) × (length (now room) ≡ 65536) ⌝ }
     ensures { λ n. ⌜ InputDoes r n ⌝ }
 {
     let mut rack = r;
-    let mut kept = 0;
+    let mut block = Block {
+        from: 0,
+        end: 0,
+        brought: true,
+        reads: READS,
+    };
     let mut code = 2;
     let mut more = true;
-    let mut reads = READS;
-    while 0 < reads && more {
-        let n = take_block(room, kept);
-        let worked = take_fields(rack, base::part_to(room, n), reply, out);
-        rack = worked.rack;
-        code = worked.code;
-        more = (kept < n) & waits(code);
-        kept = buffers::keep_rest(room, worked.used, n);
-        reads -= 1;
+    while more {
+        block = refill(room, block, code);
+        let there = base::part_to(room, block.end);
+        let w = engine::work(rack, base::part_from(there, block.from), out, 0, FULL);
+        rack = w.rack;
+        code = w.code;
+        console::write_out(out, w.next);
+        block.from += w.used;
+        let waits = block.brought & console::waits(code);
+        more = (code == 0) | (waits & (0 < block.reads));
     }
-    if kept == 0 { 0 } else { code }
+    if block.from == block.end { 0 } else { code }
 }
 
 fn main() {
@@ -98,11 +79,10 @@ fn main() {
     let mut code = fitted.code;
     if code == 0 {
         let mut room = io::large_buffer();
-        let mut reply = io::buffer();
         let mut out = io::large_buffer();
-        code = take_input(fitted.rack, &mut room, &mut reply, &mut out);
+        code = take_input(fitted.rack, &mut room, &mut out);
     }
     if code != 0 {
-        say_refusal(code);
+        console::say_refusal(code);
     }
 }

@@ -6,9 +6,8 @@ use Rattle.controller.proofs.main.Statement.{statement}
 use Rattle.controller.proofs.main.Tie as tie
 use Rattle.controller.proofs.main.Reads as reads
 use Rattle.controller.proofs.main.Lts as lts
-use Rattle.controller.proofs.say_refusal.Reads as say-refusal-reads
+use Rattle.console.proofs.say_refusal.Reads as say-refusal-reads
 use Rattle.controller.proofs.take_input.Reads as take-input-reads
-use Rattle.io.proofs.buffer.Reads as buffer-reads
 use Rattle.io.proofs.large_buffer.Reads as large-buffer-reads
 use Rattle.io.proofs.read_full.Reads as read-full-reads
 use Rattle.rack.proofs.fit.Reads as fit-reads
@@ -31,9 +30,6 @@ fit-requires c κs = search needs
 large-buffer-requires : tie.Need-large-buffer-requires
 large-buffer-requires c κs = search needs
 
-buffer-requires : tie.Need-buffer-requires
-buffer-requires c κs = search needs
-
 large-buffer-requires-2 : tie.Need-large-buffer-requires-2
 large-buffer-requires-2 c κs = search needs
 
@@ -43,11 +39,8 @@ slice-aggregate-take-input c = search needs
 slice-aggregate-take-input-2 : tie.Need-slice-aggregate-take-input-2
 slice-aggregate-take-input-2 c = search needs
 
-slice-aggregate-take-input-3 : tie.Need-slice-aggregate-take-input-3
-slice-aggregate-take-input-3 c = search needs
-
 take-input-requires : tie.Need-take-input-requires
-take-input-requires c κs = (fitted-small _ _ (c .before .before .before .before .before .before .before .fit .ensures), sym (c .before .before .before .before .buffer .ensures), sym (c .before .before .before .large-buffer2 .ensures), sym (c .before .before .before .before .before .large-buffer .ensures))
+take-input-requires c κs = (fitted-small _ _ (c .before .before .before .before .before .fit .ensures), sym (c .before .before .large-buffer2 .ensures), sym (c .before .before .before .large-buffer .ensures))
 
 say-refusal-requires : tie.Need-say-refusal-requires
 say-refusal-requires c κs = search needs
@@ -68,11 +61,9 @@ main-spec =
     slice-aggregate-fit
     fit-requires
     large-buffer-requires
-    buffer-requires
     large-buffer-requires-2
     slice-aggregate-take-input
     slice-aggregate-take-input-2
-    slice-aggregate-take-input-3
     take-input-requires
     say-refusal-requires
     returns

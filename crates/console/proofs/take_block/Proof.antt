@@ -4,10 +4,10 @@ use Prim.Native.Nat.{_-_}
 use lib.ListN.{length}
 use borrow.Rule.Slice.PartMut.{take-put}
 use borrow.Author.Needs.{needs}
-use Rattle.controller.proofs.take_block.Statement.{statement}
-use Rattle.controller.proofs.take_block.Tie as tie
-use Rattle.controller.proofs.take_block.Reads as reads
-use Rattle.controller.proofs.take_block.Lts as lts
+use Rattle.console.proofs.take_block.Statement.{statement}
+use Rattle.console.proofs.take_block.Tie as tie
+use Rattle.console.proofs.take_block.Reads as reads
+use Rattle.console.proofs.take_block.Lts as lts
 use Rattle.io.proofs.count.Reads as count-reads
 use Rattle.libc.proofs.read.Reads as read-reads
 
