@@ -41,7 +41,7 @@ abbrev pub fieldsFrom : ℕ → (ℕ → Bool) → List ℕ → wire.Rack Supply
 fieldsFrom zero stop s v used said = ran v used said 0
 fieldsFrom (suc n) stop s v used said = afterField (fieldsFrom n stop s) stop v used said (callOf plainSupply v (fieldAt (drop used s)))
 
--- FIELDS IN TURN on the rack v: more than there are bytes there cannot be
+-- FIELDS IN TURN on the rack v: each has at least one byte, so there are no more fields than bytes
 abbrev pub fieldsOn : (ℕ → Bool) → wire.Rack Supply → List ℕ → Ran
 fieldsOn stop v s = fieldsFrom (suc (length s)) stop s v 0 []
 

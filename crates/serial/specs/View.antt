@@ -18,7 +18,7 @@ lineOf kept count spoiled selected = record { kept = kept; count = count; spoile
 abbrev pub wireOf : Line → Wire
 wireOf l = record { kept = take (l .count) (l .kept); spoiled = l .spoiled; sel = l .selected }
 
--- what is asked of a rack: that its line has 64 characters at most, as that of every rack has that a fitting list and calls lead to
+-- a line with 64 characters at most, as each rack has that a fitting list and calls lead to
 abbrev pub Short : Line → Type 0
 Short l = l .count ≤ 64
 
