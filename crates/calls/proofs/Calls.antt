@@ -14,7 +14,7 @@ use Rattle.supply.specs.declared.Supply.{Supply}
 use Rattle.field.specs.Fields.{readField}
 use Rattle.plain.specs.Plain.{plainSupply, leastReply}
 use Rattle.slots.specs.declared.Rack.{Rack}
-use Rattle.slots.specs.View.{viewOf}
+use Rattle.slots.specs.View.{viewOf, Able}
 use Rattle.engine.specs.declared.Worked.{Worked}
 use Rattle.engine.specs.Engine.{fieldAt, Ran, ran, WorkDoes, RefusedFirst}
 use Rattle.engine.proofs.Fields.{one-field}
@@ -45,7 +45,7 @@ module _ (r : Rack) (bytes b : List ℕ) where
           buffer-is = rw (says, zero-add) at (whole .1);
         }
 
-    pub long-buffer : 512 ≤ length b → RefusedFirst r bytes b 0 w b′ → (r .line .count ≤ 64 → 0 ≤ 0 → 0 + leastReply ≤ length b → WorkDoes r bytes b 0 0 w b′) → CallDoes r bytes b answer b′
+    pub long-buffer : 512 ≤ length b → RefusedFirst r bytes b 0 w b′ → (Able r → 0 ≤ 0 → 0 + leastReply ≤ length b → WorkDoes r bytes b 0 0 w b′) → CallDoes r bytes b answer b′
     unfolding callOf parse
     long-buffer h f g = rw (le-ltb (length b) 512 h) (byParsed (readField (fitted (r .setup)) bytes) refl)
       where

@@ -12,6 +12,7 @@ use Rattle.base.proofs.Choice.{or-false}
 use Rattle.wire.specs.Wire.{Call, Parsed, refuse, accept, fitted, parse}
 use Rattle.wire.specs.Rack.{refused, callOf}
 use Rattle.wire.specs.Rack as wire
+use Rattle.wire.specs.declared.Setup.{Setup}
 use Rattle.supply.specs.declared.Supply.{Supply}
 use Rattle.field.specs.Fields.{readField}
 use Rattle.field.proofs.Laws.{codeIn, lacking-short}
@@ -81,11 +82,11 @@ cuts-do-not-count v input q₁ said₁ n₁ d₁ q₂ said₂ n₂ d₂ =
     (ap (λ (R : Ran). R .rack) same, ap (λ (R : Ran). R .said) same, ap (λ (R : Ran). R .code) same)
 
 -- and what was read is a run of its fields, so that demand 3 speaks of the rack that it leads to
-pub reads-run : (l : List ℕ) (calls : List Call) (r : Rack) → Run l calls r → (k : ℕ) (s b : List ℕ) (q : wire.Rack Supply) (kept said : List ℕ) (n : ℕ) → Reads (viewOf r) k s b q kept said n
-    → Reached l (calls ++ callsOn never (viewOf r) s) q
-reads-run l calls r g k s b q kept said n d =
+pub reads-run : (u : Setup) (calls : List Call) (r : Rack) → Run u calls r → (k : ℕ) (s b : List ℕ) (q : wire.Rack Supply) (kept said : List ℕ) (n : ℕ) → Reads (viewOf r) k s b q kept said n
+    → Reached u (calls ++ callsOn never (viewOf r) s) q
+reads-run u calls r g k s b q kept said n d =
     let f = so-far (viewOf r) k s b q kept said n d in
-    turn-run l calls r g never s q (f .used) said n (f .is)
+    turn-run u calls r g never s q (f .used) said n (f .is)
 
 -- the two kinds of refusal, told apart by a test
 pub waits-is : (n : ℕ) → (eqb n 2 || eqb n 5) ≡ true → Waits n

@@ -8,12 +8,13 @@ use Rattle.wire.specs.Wire.{Call}
 use Rattle.base.specs.Choice.{pick}
 use Rattle.wire.specs.Rack.{refused, done, callOf, after, runFrom, run}
 use Rattle.wire.specs.Rack as wire
+use Rattle.wire.specs.declared.Setup.{Setup}
 use Rattle.wire.proofs.Lawful.{run-fresh-lawful}
 use Rattle.supply.specs.declared.Supply.{Supply}
 use Rattle.plain.specs.Plain.{plainSupply}
 use Rattle.slots.specs.declared.Rack.{Rack}
 use Rattle.slots.specs.View.{viewOf}
-use Rattle.rack.specs.Demand3.{Leads, Run, setupOf}
+use Rattle.rack.specs.Demand3.{Leads, Run}
 use Rattle.rack.proofs.Isolation.{run-seen}
 use Rattle.rack.proofs.Existence.{packed, view-is, answerAs, through}
 use Rattle.engine.specs.declared.Worked.{Worked}
@@ -33,63 +34,65 @@ one-call : (m : Rack) (s : List ℕ) (q : wire.Rack Supply) (n : ℕ) (t : List 
 one-call m s q n t short e = through m (fieldAt s) (λ p. packed q ≡ p) (rw e short) (ap (λ (w : wire.Answer Supply). answerAs m w .rack) (sym e))
 
 -- and so a run is longer by it
-short-after : (l : List ℕ) (cs : List Call) (m : Rack) → Run l cs m → (s : List ℕ) (q : wire.Rack Supply) (n : ℕ) (t : List ℕ) → callOf plainSupply (viewOf m) (fieldAt s) ≡ done q n t → length (q .wire .kept) ≤ 64
-short-after l cs m g s q n t e =
-    let last : run plainSupply (setupOf l) (cs ++ fieldAt s ∷ []) ≡ q = run-more _ cs (fieldAt s) ∙ rw (← run-seen l cs m g .is, e) refl in
-    subst (λ (v : wire.Rack Supply). length (v .wire .kept) ≤ 64) last (run-fresh-lawful plainSupply (setupOf l) (cs ++ fieldAt s ∷ []) .short)
+short-after : (u : Setup) (cs : List Call) (m : Rack) → Run u cs m → (s : List ℕ) (q : wire.Rack Supply) (n : ℕ) (t : List ℕ) → callOf plainSupply (viewOf m) (fieldAt s) ≡ done q n t → length (q .wire .kept) ≤ 64
+short-after u cs m g s q n t e =
+    let last : run plainSupply u (cs ++ fieldAt s ∷ []) ≡ q = run-more _ cs (fieldAt s) ∙ rw (← run-seen u cs m g .is, e) refl in
+    subst (λ (v : wire.Rack Supply). length (v .wire .kept) ≤ 64) last (run-fresh-lawful plainSupply u (cs ++ fieldAt s ∷ []) .short)
 
-run-then : (l : List ℕ) (cs : List Call) (m : Rack) → Run l cs m → (s : List ℕ) (q : wire.Rack Supply) (n : ℕ) (t : List ℕ) → callOf plainSupply (viewOf m) (fieldAt s) ≡ done q n t → Run l (cs ++ fieldAt s ∷ []) (packed q)
-run-then l cs m g s q n t e =
+run-then : (u : Setup) (cs : List Call) (m : Rack) → Run u cs m → (s : List ℕ) (q : wire.Rack Supply) (n : ℕ) (t : List ℕ) → callOf plainSupply (viewOf m) (fieldAt s) ≡ done q n t → Run u (cs ++ fieldAt s ∷ []) (packed q)
+run-then u cs m g s q n t e =
     record {
-      fitting = g .fitting;
+      list = g .list;
+      setup-is = g .setup-is;
       good = g .good;
+      fitting = g .fitting;
       fits = g .fits;
-      leads = leads-then cs (fieldAt s ∷ []) (g .fitting .rack) m (packed q) (g .leads) (one-call m s q n t (short-after l cs m g s q n t e) e);
+      leads = leads-then cs (fieldAt s ∷ []) (g .fitting .rack) m (packed q) (g .leads) (one-call m s q n t (short-after u cs m g s q n t e) e);
     }
 
--- a run on the list l, of these calls, leads to a rack with this view
-abbrev pub Reached : List ℕ → List Call → wire.Rack Supply → Type 0
-Reached l cs q = (m : Rack) × Run l cs m × (viewOf m ≡ q)
+-- a run on the setup u, of these calls, leads to a rack with this view
+abbrev pub Reached : Setup → List Call → wire.Rack Supply → Type 0
+Reached u cs q = (m : Rack) × Run u cs m × (viewOf m ≡ q)
 
-one-more : (l : List ℕ) (cs : List Call) (p q : wire.Rack Supply) (s : List ℕ) (n : ℕ) (t : List ℕ) → callOf plainSupply p (fieldAt s) ≡ done q n t → Reached l cs p → Reached l (cs ++ fieldAt s ∷ []) q
-one-more l cs p q s n t e h = (packed q, run-then l cs (h .0) (h .1) s q n t (rw (h .2) e), view-is q)
+one-more : (u : Setup) (cs : List Call) (p q : wire.Rack Supply) (s : List ℕ) (n : ℕ) (t : List ℕ) → callOf plainSupply p (fieldAt s) ≡ done q n t → Reached u cs p → Reached u (cs ++ fieldAt s ∷ []) q
+one-more u cs p q s n t e h = (packed q, run-then u cs (h .0) (h .1) s q n t (rw (h .2) e), view-is q)
 
-none-more : (l : List ℕ) (cs : List Call) (v : wire.Rack Supply) → Reached l cs v → Reached l (cs ++ []) v
-none-more l cs v h = rw append-nil h
+none-more : (u : Setup) (cs : List Call) (v : wire.Rack Supply) → Reached u cs v → Reached u (cs ++ []) v
+none-more u cs v h = rw append-nil h
 
-joined : (l : List ℕ) (cs : List Call) (c : Call) (ds : List Call) (q : wire.Rack Supply) → Reached l (cs ++ c ∷ [] ++ ds) q → Reached l (cs ++ (c ∷ ds)) q
-joined l cs c ds q h = rw append-assoc at h
+joined : (u : Setup) (cs : List Call) (c : Call) (ds : List Call) (q : wire.Rack Supply) → Reached u (cs ++ c ∷ [] ++ ds) q → Reached u (cs ++ (c ∷ ds)) q
+joined u cs c ds q h = rw append-assoc at h
 
 -- fields in turn, behind a run, are a run that is longer by their calls
-module _ (l : List ℕ) (stop : ℕ → Bool) (s : List ℕ) where
-  run-step : (n : ℕ) (cs : List Call) (v : wire.Rack Supply) (used : ℕ) (said : List ℕ) → Reached l cs v
-      → ((es : List Call) (q : wire.Rack Supply) (k : ℕ) (t : List ℕ) → Reached l es q → Reached l (es ++ callsFrom n stop s q k t) (fieldsFrom n stop s q k t .rack))
+module _ (u : Setup) (stop : ℕ → Bool) (s : List ℕ) where
+  run-step : (n : ℕ) (cs : List Call) (v : wire.Rack Supply) (used : ℕ) (said : List ℕ) → Reached u cs v
+      → ((es : List Call) (q : wire.Rack Supply) (k : ℕ) (t : List ℕ) → Reached u es q → Reached u (es ++ callsFrom n stop s q k t) (fieldsFrom n stop s q k t .rack))
       → (a : wire.Answer Supply) → callOf plainSupply v (fieldAt (drop used s)) ≡ a
-      → Reached l (cs ++ callsAfter (callsFrom n stop s) stop s used said a) (afterField (fieldsFrom n stop s) stop v used said a .rack)
-  run-step n cs v used said h ih (refused c) e = none-more l cs v h
+      → Reached u (cs ++ callsAfter (callsFrom n stop s) stop s used said a) (afterField (fieldsFrom n stop s) stop v used said a .rack)
+  run-step n cs v used said h ih (refused c) e = none-more u cs v h
   run-step n cs v used said h ih (done q k t) e = byStop (stop (length (said ++ t)))
     where
       call : Call
       call = fieldAt (drop used s)
 
-      next : Reached l (cs ++ call ∷ []) q
-      next = one-more l cs v q (drop used s) k t e h
+      next : Reached u (cs ++ call ∷ []) q
+      next = one-more u cs v q (drop used s) k t e h
 
-      byStop : (g : Bool) → Reached l (cs ++ call ∷ pick g [] (callsFrom n stop s q (used + k) (said ++ t))) (pick g (ran q (used + k) (said ++ t) 0) (fieldsFrom n stop s q (used + k) (said ++ t)) .rack)
+      byStop : (g : Bool) → Reached u (cs ++ call ∷ pick g [] (callsFrom n stop s q (used + k) (said ++ t))) (pick g (ran q (used + k) (said ++ t) 0) (fieldsFrom n stop s q (used + k) (said ++ t)) .rack)
       byStop true = next
-      byStop false = joined l cs call (callsFrom n stop s q (used + k) (said ++ t)) _ (ih (cs ++ call ∷ []) q (used + k) (said ++ t) next)
+      byStop false = joined u cs call (callsFrom n stop s q (used + k) (said ++ t)) _ (ih (cs ++ call ∷ []) q (used + k) (said ++ t) next)
 
-  fields-run : (n : ℕ) (cs : List Call) (v : wire.Rack Supply) (used : ℕ) (said : List ℕ) → Reached l cs v → Reached l (cs ++ callsFrom n stop s v used said) (fieldsFrom n stop s v used said .rack)
-  fields-run zero cs v used said h = none-more l cs v h
+  fields-run : (n : ℕ) (cs : List Call) (v : wire.Rack Supply) (used : ℕ) (said : List ℕ) → Reached u cs v → Reached u (cs ++ callsFrom n stop s v used said) (fieldsFrom n stop s v used said .rack)
+  fields-run zero cs v used said h = none-more u cs v h
   fields-run (suc n) cs v used said h = run-step n cs v used said h (λ es q k t. fields-run n es q k t) (callOf plainSupply v (fieldAt (drop used s))) refl
 
 -- FIELDS WORKED BEHIND A RUN ARE A LONGER RUN
-pub turn-run : (l : List ℕ) (calls : List Call) (r : Rack) → Run l calls r → (stop : ℕ → Bool) (s : List ℕ) (q : wire.Rack Supply) (used : ℕ) (said : List ℕ) (n : ℕ) → ran q used said n ≡ fieldsOn stop (viewOf r) s
-    → Reached l (calls ++ callsOn stop (viewOf r) s) q
-turn-run l calls r g stop s q used said n e =
-    let run = fields-run l stop s (suc (length s)) calls (viewOf r) 0 [] (r, g, refl) in
+pub turn-run : (u : Setup) (calls : List Call) (r : Rack) → Run u calls r → (stop : ℕ → Bool) (s : List ℕ) (q : wire.Rack Supply) (used : ℕ) (said : List ℕ) (n : ℕ) → ran q used said n ≡ fieldsOn stop (viewOf r) s
+    → Reached u (calls ++ callsOn stop (viewOf r) s) q
+turn-run u calls r g stop s q used said n e =
+    let run = fields-run u stop s (suc (length s)) calls (viewOf r) 0 [] (r, g, refl) in
     (run .0, run .1, run .2 ∙ ap (λ (R : Ran). R .rack) (sym e))
 
-pub work-run : (l : List ℕ) (calls : List Call) (r : Rack) → Run l calls r → (s b : List ℕ) (at full : ℕ) (w : Worked) (b′ : List ℕ) → WorkDoes r s b at full w b′
-    → Reached l (calls ++ callsOn (fullAt at full) (viewOf r) s) (viewOf (w .rack))
-work-run l calls r g s b at full w b′ d = turn-run l calls r g (fullAt at full) s (viewOf (w .rack)) (w .used) (d .said) (w .code) (d .is)
+pub work-run : (u : Setup) (calls : List Call) (r : Rack) → Run u calls r → (s b : List ℕ) (at full : ℕ) (w : Worked) (b′ : List ℕ) → WorkDoes r s b at full w b′
+    → Reached u (calls ++ callsOn (fullAt at full) (viewOf r) s) (viewOf (w .rack))
+work-run u calls r g s b at full w b′ d = turn-run u calls r g (fullAt at full) s (viewOf (w .rack)) (w .used) (d .said) (w .code) (d .is)

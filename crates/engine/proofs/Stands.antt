@@ -56,7 +56,7 @@ pub record Stands (R : Ran) (s b : List ℕ) (at full : ℕ) (u : Setup) (ss : L
   pub said : List ℕ
   pub fuel : ℕ
   pub since : List Supply
-  pub small : l .count ≤ 64
+  pub small : Short l
   pub put : Put b at said next b′
   pub whole : next ≡ at + length said
   pub low : going ≡ true → left ≡ 0 → next ≤ full
@@ -65,7 +65,7 @@ pub record Stands (R : Ran) (s b : List ℕ) (at full : ℕ) (u : Setup) (ss : L
   pub goes : going ≡ true → onward fuel (fullAt at full) s since (viewOf (rackIs ss l u)) used left said ≡ R
   pub ended : going ≡ false → ran (viewOf (rackIs ss l u)) used said code ≡ R
 
-pub stands-start : (s b : List ℕ) (at full : ℕ) (u : Setup) (ss : List Supply) (l : Line) → l .count ≤ 64 → at ≤ full → Stands (fieldsOn (fullAt at full) (viewOf (rackIs ss l u)) s) s b at full u ss l 0 at 0 0 true b
+pub stands-start : (s b : List ℕ) (at full : ℕ) (u : Setup) (ss : List Supply) (l : Line) → Short l → at ≤ full → Stands (fieldsOn (fullAt at full) (viewOf (rackIs ss l u)) s) s b at full u ss l 0 at 0 0 true b
 stands-start s b at full u ss l h low =
     record {
       said = [];

@@ -17,7 +17,7 @@ use Rattle.supply.specs.Flt.{onOf}
 use Rattle.answers.specs.Answers.{answerOf}
 use Rattle.plain.specs.Plain.{grammar, replyTo}
 use Rattle.slots.specs.declared.Rack.{Rack}
-use Rattle.rack.specs.Demand3.{setupOf, supplyAt}
+use Rattle.rack.specs.Demand3.{supplyAt}
 use Rattle.rack.proofs.Isolation.{isolated-code}
 use Rattle.example.specs.Repeats.{SameSupply, SharesRepeat, elsewhere, concerns, NeighboursDoNotCount}
 
@@ -34,8 +34,8 @@ is-fitted : (m : ℕ) → (m ≡ 255 → ⊥) → not (eqb m 255) ≡ true
 is-fitted m n = rw (ne-eqb m 255 n) refl
 
 pub shares-repeat : SharesRepeat
-shares-repeat l l₂ calls calls₂ r r₂ a b g g₂ n m e =
-    same _ r a r₂ b (isolated-code l calls a (is-fitted _ n) .alike r g l₂ calls₂ r₂ b g₂ m e)
+shares-repeat u u₂ calls calls₂ r r₂ a b g g₂ n m e =
+    same _ r a r₂ b (isolated-code u calls a (is-fitted _ n) .alike r g u₂ calls₂ r₂ b g₂ m e)
 
 module _ (u : Setup) (a : ℕ) where
   -- what slot a takes of a stream, where these bytes have come since the last CR and this slot is selected
@@ -95,6 +95,6 @@ module _ (u : Setup) (a : ℕ) where
   own-share calls = own-stream calls [] nobody
 
 pub neighbours-do-not-count : NeighboursDoNotCount
-neighbours-do-not-count l calls calls₂ r r₂ a g g₂ n e =
-    shares-repeat l l calls calls₂ r r₂ a a g g₂ n refl
-    (own-share (setupOf l) a calls ∙ ap (λ (x : List Call). shareOf grammar (setupOf l) x a) e ∙ sym (own-share (setupOf l) a calls₂))
+neighbours-do-not-count u calls calls₂ r r₂ a g g₂ n e =
+    shares-repeat u u calls calls₂ r r₂ a a g g₂ n refl
+    (own-share u a calls ∙ ap (λ (x : List Call). shareOf grammar u x a) e ∙ sym (own-share u a calls₂))

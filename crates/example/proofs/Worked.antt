@@ -91,11 +91,11 @@ worked-out =
       answers-are = replies;
       share-is = share-6;
       there-is-one = some-run fittingList calls refl;
-      ends-as = λ r g. isolated-code fittingList calls 6 refl .ends r g ∙ ap (plain plainSupply 0) share-6 ∙ end-6;
+      ends-as = λ r g. isolated-code (setupOf fittingList) calls 6 refl .ends r g ∙ ap (plain plainSupply 0) share-6 ∙ end-6;
       ends-on = on-6;
-      stays-off = λ r g. isolated-code fittingList calls 6 refl .calls-off ovp (tripping ++ tripped) released r refl g (rw share-6-tripped tripped-6);
+      stays-off = λ r g. isolated-code (setupOf fittingList) calls 6 refl .calls-off ovp (tripping ++ tripped) released r refl g (rw share-6-tripped tripped-6);
       neighbour-runs = λ r g.
-          let e : supplyAt r 9 ≡ plain plainSupply 3 shareNeighbour = isolated-code fittingList (tripping ++ tripped) 9 refl .ends r g ∙ ap (plain plainSupply 3) share-9 in
+          let e : supplyAt r 9 ≡ plain plainSupply 3 shareNeighbour = isolated-code (setupOf fittingList) (tripping ++ tripped) 9 refl .ends r g ∙ ap (plain plainSupply 3) share-9 in
           rw e end-9;
-      repeated = λ r r₂ g g₂. isolated-code fittingList calls 6 refl .alike r g listAlone alone r₂ 6 g₂ refl (share-6 ∙ sym share-alone);
+      repeated = λ r r₂ g g₂. isolated-code (setupOf fittingList) calls 6 refl .alike r g (setupOf listAlone) alone r₂ 6 g₂ refl (share-6 ∙ sym share-alone);
     }

@@ -13,7 +13,7 @@ use Rattle.supply.specs.Flt.{onOf}
 use Rattle.answers.specs.Answers.{answerOf}
 use Rattle.plain.specs.Plain.{grammar, replyTo}
 use Rattle.slots.specs.declared.Rack.{Rack}
-use Rattle.rack.specs.Demand3.{Run, setupOf, supplyAt}
+use Rattle.rack.specs.Demand3.{Run, supplyAt}
 
 -- the supply of a model m at address a of one rack and at address b of another cannot be told apart: the whole state, the output,
 -- the answer to each query and the reply to whatever comes next
@@ -26,12 +26,12 @@ pub record SameSupply (m : ℕ) (r : Rack) (a : ℕ) (r₂ : Rack) (b : ℕ) : T
 -- equal shares: two runs, in any two racks, that gave the supplies of one model the same entries in the same order
 abbrev pub SharesRepeat : Type 0
 SharesRepeat =
-    (l l₂ : List ℕ) (calls calls₂ : List Call) (r r₂ : Rack) (a b : ℕ)
-    → Run l calls r → Run l₂ calls₂ r₂
-    → (modelAt (setupOf l) a ≡ 255 → ⊥)
-    → modelAt (setupOf l) a ≡ modelAt (setupOf l₂) b
-    → shareOf grammar (setupOf l) calls a ≡ shareOf grammar (setupOf l₂) calls₂ b
-    → SameSupply (modelAt (setupOf l) a) r a r₂ b
+    (u u₂ : Setup) (calls calls₂ : List Call) (r r₂ : Rack) (a b : ℕ)
+    → Run u calls r → Run u₂ calls₂ r₂
+    → (modelAt u a ≡ 255 → ⊥)
+    → modelAt u a ≡ modelAt u₂ b
+    → shareOf grammar u calls a ≡ shareOf grammar u₂ calls₂ b
+    → SameSupply (modelAt u a) r a r₂ b
 
 -- a call that is no concern of slot a: it is refused, or it is a field of tags 2 to 5 for another address
 abbrev pub elsewhere : ℕ → List Item → Bool
@@ -46,8 +46,8 @@ concerns u a c = not (elsewhere a (items (parse grammar u c)))
 -- the other calls are the same to the byte, the lengths of their buffers included
 abbrev pub NeighboursDoNotCount : Type 0
 NeighboursDoNotCount =
-    (l : List ℕ) (calls calls₂ : List Call) (r r₂ : Rack) (a : ℕ)
-    → Run l calls r → Run l calls₂ r₂
-    → (modelAt (setupOf l) a ≡ 255 → ⊥)
-    → keep (concerns (setupOf l) a) calls ≡ keep (concerns (setupOf l) a) calls₂
-    → SameSupply (modelAt (setupOf l) a) r a r₂ a
+    (u : Setup) (calls calls₂ : List Call) (r r₂ : Rack) (a : ℕ)
+    → Run u calls r → Run u calls₂ r₂
+    → (modelAt u a ≡ 255 → ⊥)
+    → keep (concerns u a) calls ≡ keep (concerns u a) calls₂
+    → SameSupply (modelAt u a) r a r₂ a

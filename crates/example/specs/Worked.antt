@@ -124,11 +124,11 @@ pub record WorkedOut : Type 0 where
   -- what slot 6 was given, trip and release at their places
   pub share-is : shareOf grammar (setupOf fittingList) calls 6 ≡ shareTripping ++ shareTripped ++ shareReleased
   -- there is such a run; and each one leaves the supply of slot 6 so, with its output on
-  pub there-is-one : (r : Rack) × Run fittingList calls r
-  pub ends-as : (r : Rack) → Run fittingList calls r → supplyAt r 6 ≡ endState
+  pub there-is-one : (r : Rack) × Run (setupOf fittingList) calls r
+  pub ends-as : (r : Rack) → Run (setupOf fittingList) calls r → supplyAt r 6 ≡ endState
   pub ends-on : onOf endState ≡ true
   -- until the release slot 6 is off, whatever came meanwhile, and the neighbour runs, with the PV that the global gave it
-  pub stays-off : (r : Rack) → Run fittingList (tripping ++ tripped) r → onOf (supplyAt r 6) ≡ false
-  pub neighbour-runs : (r : Rack) → Run fittingList (tripping ++ tripped) r → (onOf (supplyAt r 9) ≡ true) × (supplyAt r 9 .pv ≡ 53000)
+  pub stays-off : (r : Rack) → Run (setupOf fittingList) (tripping ++ tripped) r → onOf (supplyAt r 6) ≡ false
+  pub neighbour-runs : (r : Rack) → Run (setupOf fittingList) (tripping ++ tripped) r → (onOf (supplyAt r 9) ≡ true) × (supplyAt r 9 .pv ≡ 53000)
   -- the chemist alone, in another rack, ends in the same state
-  pub repeated : (r r₂ : Rack) → Run fittingList calls r → Run listAlone alone r₂ → supplyAt r 6 ≡ supplyAt r₂ 6
+  pub repeated : (r r₂ : Rack) → Run (setupOf fittingList) calls r → Run (setupOf listAlone) alone r₂ → supplyAt r 6 ≡ supplyAt r₂ 6

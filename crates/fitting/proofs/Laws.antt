@@ -13,7 +13,7 @@ use Rattle.wire.specs.Wire.{freshWire}
 use Rattle.supply.specs.declared.Supply.{Supply}
 use Rattle.supply.specs.State.{fresh}
 use Rattle.serial.specs.declared.Line.{Line}
-use Rattle.serial.specs.View.{wireOf}
+use Rattle.serial.specs.View.{wireOf, Short}
 use Rattle.fitting.specs.Fitting.{allowed, allAllowed, Made}
 use Rattle.slots.specs.View.{rackIs}
 
@@ -48,7 +48,7 @@ freshAt models a s = fresh (getD models a 255)
 pub fresh-again : (models : List ℕ) (d i : ℕ) (start xs : List Supply) (y : Supply) → i < length models → xs ≡ eachTo (freshAt models) i start → y ≡ fresh (getD models i d) → set xs i y ≡ eachTo (freshAt models) (i + 1) start
 fresh-again models d i start xs y h e g = eachTo-again (freshAt models) i start xs (fresh 255) y e (g ∙ ap fresh (getD-any models i d 255 h))
 
-pub made : (models : List ℕ) (ss start : List Supply) (k : ℕ) (l : Line) → length models ≡ 31 → length start ≡ 31 → k ≤ 31 → 31 ≤ k → ss ≡ eachTo (freshAt models) k start → wireOf l ≡ freshWire → l .count ≤ 64
+pub made : (models : List ℕ) (ss start : List Supply) (k : ℕ) (l : Line) → length models ≡ 31 → length start ≡ 31 → k ≤ 31 → 31 ≤ k → ss ≡ eachTo (freshAt models) k start → wireOf l ≡ freshWire → Short l
     → Made (record { models = models }) (rackIs ss l (record { models = models }))
 made models ss start k l n m h g e w small =
     let s : ss ≡ tabulate 31 (λ a. fresh (getD models a 255)) = e ∙ eachTo-all (freshAt models) k start (fresh 255) (omega arith) ∙ rw m refl in

@@ -12,7 +12,7 @@ use Rattle.wire.specs.Wire.{Wire, byte}
 use Rattle.wire.proofs.ForCode.{scan-more}
 use Rattle.serial.specs.declared.Line.{Line}
 use Rattle.serial.specs.View as serial
-use Rattle.serial.specs.View.{wireOf, charOn}
+use Rattle.serial.specs.View.{wireOf, charOn, Short}
 use Rattle.serial.proofs.Chars.{char-on, char-keeps}
 use Rattle.slots.specs.View.{due}
 use Rattle.pieces.specs.Pieces.{Typing}
@@ -28,10 +28,10 @@ char-due w x =
     (omega (arith, length-append (w .kept) (x ∷ [])))
     (omega arith)
 
-pub typing-none : (l : Line) (p : List ℕ) → l .count ≤ 64 → Typing l p 0 l
+pub typing-none : (l : Line) (p : List ℕ) → Short l → Typing l p 0 l
 typing-none l p h = record { small = h; selects = refl; scans = λ γ u. refl; grows = omega arith }
 
-pub typing-more : (l m r : Line) (p : List ℕ) (i : ℕ) → i < length p → eqb (getD p i 0) 13 ≡ false → Typing l p i m → (m .count ≤ 64 → serial.Typed m (getD p i 0) r) → Typing l p (i + 1) r
+pub typing-more : (l m r : Line) (p : List ℕ) (i : ℕ) → i < length p → eqb (getD p i 0) 13 ≡ false → Typing l p i m → (Short m → serial.Typed m (getD p i 0) r) → Typing l p (i + 1) r
 typing-more l m r p i h n t d =
     let x : ℕ = getD p i 0 in
     let is : wireOf r ≡ charOn (wireOf m) x = d (t .small) .is in

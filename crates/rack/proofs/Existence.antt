@@ -78,14 +78,16 @@ some-leads (c ∷ cs) m h =
     let rest = some-leads cs (answerAs m w .rack) next in (rest .0, through m c (λ p. Leads p cs (rest .0)) (kept .short) (rest .1))
 
 -- EVERY LIST OF CALLS HAS A RUN, on the rack of every list that fits
-pub some-run : (l : List ℕ) (calls : List Call) → goodList l ≡ true → (r : Rack) × Run l calls r
+pub some-run : (l : List ℕ) (calls : List Call) → goodList l ≡ true → (r : Rack) × Run (setupOf l) calls r
 some-run l calls good =
     let v : wire.Rack Supply = freshRack plainSupply (setupOf l) in
     let q = some-leads calls (packed v) (subst Lawful (sym (view-is v)) (fresh-lawful (setupOf l))) in (
       q .0,
       record {
-        fitting = record { code = 0; rack = packed v };
+        list = l;
+        setup-is = refl;
         good = good;
+        fitting = record { code = 0; rack = packed v };
         fits = record { refuses = λ f. absurd (true≢false (sym good ∙ f)); makes = λ g. (refl, record { small = omega arith; fresh-is = view-is v }) };
         leads = q .1;
       },

@@ -1,5 +1,5 @@
 -- A fitting list as a whole, taken or refused.
-use Prim.Native.Nat.{ℕ, _≤_}
+use Prim.Native.Nat.{ℕ}
 use mathlib.Core.Path.{_≡_, refl, sym, subst, _∙_}
 use mathlib.Core.List.{List}
 use mathlib.Core.Bool.{Bool, true, false, true≢false, _&&_}
@@ -9,6 +9,7 @@ use borrow.Author.Tests.{eqb-true}
 use Rattle.base.proofs.Choice.{and-both}
 use Rattle.fitting.specs.Fitting.{allAllowed, goodList, Made}
 use Rattle.slots.specs.declared.Rack.{Rack}
+use Rattle.slots.specs.View.{Able}
 use Rattle.rack.specs.declared.Fitted.{Fitted}
 use Rattle.rack.specs.Fit.{FitDoes}
 
@@ -25,9 +26,9 @@ module _ (l : List ℕ) (g : Bool) (e : g ≡ allAllowed l) (q : Rack) where
       record { refuses = λ f. (refl, d); makes = λ h. absurd (true≢false (sym h ∙ bad)) }
 
 -- taken or refused, the line of the rack is short
-pub fitted-small : (l : List ℕ) (f : Fitted) → FitDoes l f → f .rack .line .count ≤ 64
+pub fitted-small : (l : List ℕ) (f : Fitted) → FitDoes l f → Able (f .rack)
 fitted-small l f d = byTest (goodList l) refl
   where
-    byTest : (t : Bool) → goodList l ≡ t → f .rack .line .count ≤ 64
+    byTest : (t : Bool) → goodList l ≡ t → Able (f .rack)
     byTest true e = d .makes e .1 .small
     byTest false e = d .refuses e .1 .small

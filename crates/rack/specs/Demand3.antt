@@ -36,47 +36,50 @@ abbrev pub Leads : Rack → List Call → Rack → Type 0
 Leads r [] q = q ≡ r
 Leads r (c ∷ cs) q = Through r c (λ m. Leads m cs q)
 
--- a list that `fit` takes, and the rack that the calls lead to from what it made
-pub record Run (l : List ℕ) (calls : List Call) (r : Rack) : Type 0 where
-  pub fitting : Fitted
-  pub good : goodList l ≡ true
-  pub fits : FitDoes l fitting
-  pub leads : Leads (fitting .rack) calls r
-
+-- the setup that a fitting list stands for
 abbrev pub setupOf : List ℕ → Setup
 setupOf l = record { models = l }
+
+-- the setup of a list that `fit` takes, and the rack that the calls lead to from what it made
+pub record Run (u : Setup) (calls : List Call) (r : Rack) : Type 0 where
+  pub list : List ℕ
+  pub setup-is : u ≡ setupOf list
+  pub good : goodList list ≡ true
+  pub fitting : Fitted
+  pub fits : FitDoes list fitting
+  pub leads : Leads (fitting .rack) calls r
 
 -- the supply in a slot of the rack of the code
 abbrev pub supplyAt : Rack → ℕ → Supply
 supplyAt r a = getD (r .slots) a (fresh 255)
 
 -- of one fitted address, after the calls
-pub record AtAddress (l : List ℕ) (calls : List Call) (a : ℕ) : Type 0 where
+pub record AtAddress (u : Setup) (calls : List Call) (a : ℕ) : Type 0 where
   -- the whole state is the plain supply's, from fresh, on the address's own share
-  pub ends : (r : Rack) → Run l calls r → supplyAt r a ≡ plain plainSupply (modelAt (setupOf l) a) (shareOf grammar (setupOf l) calls a)
+  pub ends : (r : Rack) → Run u calls r → supplyAt r a ≡ plain plainSupply (modelAt u a) (shareOf grammar u calls a)
   -- equal models and equal shares leave slots equal, in any two racks
   pub alike :
-      (r : Rack) → Run l calls r
-      → (l₂ : List ℕ) (calls₂ : List Call) (r₂ : Rack) (b : ℕ) → Run l₂ calls₂ r₂
-      → modelAt (setupOf l) a ≡ modelAt (setupOf l₂) b
-      → shareOf grammar (setupOf l) calls a ≡ shareOf grammar (setupOf l₂) calls₂ b
+      (r : Rack) → Run u calls r
+      → (u₂ : Setup) (calls₂ : List Call) (r₂ : Rack) (b : ℕ) → Run u₂ calls₂ r₂
+      → modelAt u a ≡ modelAt u₂ b
+      → shareOf grammar u calls a ≡ shareOf grammar u₂ calls₂ b
       → supplyAt r a ≡ supplyAt r₂ b
   -- the voltage margins, and with them the limits of the model, hold after every beginning of the list
-  pub margins : (past rest : List Call) (r : Rack) → calls ≡ past ++ rest → Run l past r
+  pub margins : (past rest : List Call) (r : Rack) → calls ≡ past ++ rest → Run u past r
       → (20 * supplyAt r a .uvl ≤ 19 * supplyAt r a .pv) × (21 * supplyAt r a .pv ≤ 20 * supplyAt r a .ovp)
-  pub limits : (past rest : List Call) (r : Rack) → calls ≡ past ++ rest → Run l past r → Lawful (modelAt (setupOf l) a) (supplyAt r a)
+  pub limits : (past rest : List Call) (r : Rack) → calls ≡ past ++ rest → Run u past r → Lawful (modelAt u a) (supplyAt r a)
   -- the call that trips leaves the output off, and so does each one behind it, as long as none has brought a release of that trip
-  pub calls-off : (k : Trip) (past rest : List Call) (r : Rack) → calls ≡ past ++ rest → Run l past r
-      → TrippedBy plainSupply trips (modelAt (setupOf l) a) k (shareOf grammar (setupOf l) past a)
+  pub calls-off : (k : Trip) (past rest : List Call) (r : Rack) → calls ≡ past ++ rest → Run u past r
+      → TrippedBy plainSupply trips (modelAt u a) k (shareOf grammar u past a)
       → onOf (supplyAt r a) ≡ false
   -- and after each entry of the share, from the one that trips to the first release
-  pub entries-off : (k : Trip) (past rest : List Entry) → shareOf grammar (setupOf l) calls a ≡ past ++ rest
-      → TrippedBy plainSupply trips (modelAt (setupOf l) a) k past
-      → onOf (plain plainSupply (modelAt (setupOf l) a) past) ≡ false
+  pub entries-off : (k : Trip) (past rest : List Entry) → shareOf grammar u calls a ≡ past ++ rest
+      → TrippedBy plainSupply trips (modelAt u a) k past
+      → onOf (plain plainSupply (modelAt u a) past) ≡ false
   -- each named release does clear its trip
-  pub freed : (k : Trip) (past : List Entry) (e : Entry) (rest : List Entry) → shareOf grammar (setupOf l) calls a ≡ past ++ e ∷ rest
-      → releasesOf (modelAt (setupOf l) a) k (plain plainSupply (modelAt (setupOf l) a) past) e ≡ true
-      → isSet k (stepOf (modelAt (setupOf l) a) (plain plainSupply (modelAt (setupOf l) a) past) e) ≡ false
+  pub freed : (k : Trip) (past : List Entry) (e : Entry) (rest : List Entry) → shareOf grammar u calls a ≡ past ++ e ∷ rest
+      → releasesOf (modelAt u a) k (plain plainSupply (modelAt u a) past) e ≡ true
+      → isSet k (stepOf (modelAt u a) (plain plainSupply (modelAt u a) past) e) ≡ false
 
-abbrev pub Isolated : List ℕ → List Call → Type 0
-Isolated l calls = (a : ℕ) → fitted (setupOf l) a ≡ true → AtAddress l calls a
+abbrev pub Isolated : Setup → List Call → Type 0
+Isolated u calls = (a : ℕ) → fitted u a ≡ true → AtAddress u calls a

@@ -14,9 +14,9 @@ use Rattle.base.proofs.Choice.{pick-keeps}
 use Rattle.wire.specs.declared.Setup.{Setup}
 use Rattle.wire.specs.Wire.{Wire, Grammar, quiet, byteOn}
 use Rattle.serial.specs.declared.Line.{Line}
-use Rattle.serial.specs.View.{charOn, Typed}
+use Rattle.serial.specs.View.{charOn, Short, Typed}
 
-module _ (l : Line) (b : ℕ) (wide : length (l .kept) ≡ 64) (h : l .count ≤ 64) where
+module _ (l : Line) (b : ℕ) (wide : length (l .kept) ≡ 64) (h : Short l) where
   pub typed-lf : b ≡ 10 → Typed l b l
   unfolding charOn
   typed-lf q = record { small = h; is = rw (eq-eqb b 10 q) }

@@ -26,7 +26,7 @@ use Rattle.texts.specs.Texts.{codeText, replyOf}
 use Rattle.reply.specs.Obeying.{saidOf}
 use Rattle.protocol.specs.Sent.{obeyed, repliedTo}
 use Rattle.serial.specs.declared.Line.{Line}
-use Rattle.serial.specs.View.{wireOf}
+use Rattle.serial.specs.View.{wireOf, Short}
 use Rattle.globals.specs.Globals.{orderedAt}
 use Rattle.plain.specs.Plain.{plainSupply, stepOf, replyTo}
 use Rattle.slots.specs.declared.Rack.{Rack}
@@ -34,7 +34,7 @@ use Rattle.slots.specs.View.{rackIs, Moves}
 
 -- the line after its CR, with a slot selected
 pub record Cleared (l : Line) (sel : ℕ) : Type 0 where
-  pub small : l .count ≤ 64
+  pub small : Short l
   pub is : wireOf l ≡ record { kept = []; spoiled = false; sel = sel }
 
 module _ (r : Rack) (b : List ℕ) (at : ℕ) where

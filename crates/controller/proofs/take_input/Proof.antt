@@ -5,7 +5,7 @@ use native.Mathlib.Omega.{arith}
 use mathlib.Core.Path.{_≡_, refl, sym, ap, _∙_}
 use Prim.Native.Nat.{_≤_}
 use lib.ListN.{length, drop}
-use Rattle.slots.specs.View.{viewOf}
+use Rattle.slots.specs.View.{viewOf, Able}
 use Rattle.engine.specs.Engine.{fullAt}
 use Rattle.controller.proofs.Pieces.{At, at-start, has-room, weight, Turned, a-turn, ends-quietly, ends-refused}
 use Rattle.controller.proofs.take_input.Statement.{statement}
@@ -21,7 +21,7 @@ use Rattle.engine.proofs.work.Reads as work-reads
 
 abbrev Inv-loop : tie.InvT-loop
 Inv-loop room₀ out₀ rack₀ block₀ code₀ more₀ room out rack block code more =
-    (length room ≡ length room₀) × (length out ≡ length out₀) × (rack .line .count ≤ 64)
+    (length room ≡ length room₀) × (length out ≡ length out₀) × Able rack
     × At (viewOf rack₀) (viewOf rack) room block code more
 
 abbrev μ-loop : tie.MeasureT-loop
@@ -50,7 +50,7 @@ write-out-requires c κs = search needs
 -- where the loop stands behind the turn that was just made
 turned :
     (m : lts.After-struct-known2 (refill-reads.Asked, refill-reads.Learnt, part-to-reads.Asked, part-to-reads.Learnt, part-from-reads.Asked, part-from-reads.Learnt, work-reads.Asked, work-reads.Learnt, write-out-reads.Asked, write-out-reads.Learnt, waits-reads.Asked, waits-reads.Learnt) reads.Pre reads.Post Inv-loop μ-loop)
-    → (m .before .before .before .before .before .before .before .before .before .work .result .rack .line .count ≤ 64)
+    → Able (m .before .before .before .before .before .before .before .before .before .work .result .rack)
     × Turned (viewOf (m .before .before .before .before .before .before .before .before .before .before .before .before .before .before .before .before .before .before .before .before .before .before .args .r)) (viewOf (m .before .before .before .before .before .before .before .before .before .work .result .rack)) (m .before .before .before .before .before .before .before .before .before .before .before .before .before .before .before .before .refill .last .0) (m .before .before .before .before .before .before .before .before .before .before .before .before .before .before .before .before .before .before .before .loop .block) (m .before .before .before .before .before .before .before .before .before .before .before .before .before .before .before .before .refill .result) (m .before .before .before .before .before .before .before .before .before .before .before .before .before .before .before .before .before .before .before .loop .code) (m .before .before .before .before .before .before .before .before .before .work .result .used) (m .before .before .before .before .before .before .before .before .before .work .result .code)
 turned m =
     let l = m .before .before .before .before .before .before .before .before .before .before .before .before .before .before .before .before .before .before .before .loop in

@@ -8,7 +8,7 @@ use lib.Dec.{eqb}
 use lib.ListN.{length}
 use borrow.Author.Tests.{eq-eqb, ne-eqb, eqb-true}
 use Rattle.base.specs.Choice.{bit}
-use Rattle.slots.specs.View.{viewOf}
+use Rattle.slots.specs.View.{viewOf, Able}
 use Rattle.engine.specs.Engine.{ran, allFields}
 use Rattle.engine.proofs.Spent.{spent}
 use Rattle.engine.proofs.Turns.{resume}
@@ -23,7 +23,7 @@ use Rattle.one_by_one.proofs.take_field.Reads as take-field-reads
 abbrev Inv-loop : tie.InvT-loop
 Inv-loop s a₀ used₀ a used =
     (used ≤ length s)
-    × (a .rack .line .count ≤ 64)
+    × Able (a .rack)
     × ((t : List ℕ) × (resume s (ran (viewOf (a .rack)) used t (a .code)) ≡ allFields (viewOf (a₀ .rack)) s))
 
 abbrev μ-loop : tie.MeasureT-loop

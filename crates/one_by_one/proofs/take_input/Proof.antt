@@ -6,6 +6,7 @@ use Prim.Native.Nat.{_≤_}
 use native.Mathlib.Omega.{arith}
 use lib.Dec.{ltb}
 use lib.ListN.{length}
+use Rattle.slots.specs.View.{Able}
 use Rattle.one_by_one.proofs.Turns.{rest-short}
 use Rattle.one_by_one.proofs.take_input.Statement.{statement}
 use Rattle.one_by_one.proofs.take_input.Tie as tie
@@ -18,7 +19,7 @@ use Rattle.console.proofs.waits.Reads as waits-reads
 use Rattle.one_by_one.proofs.take_fields.Reads as take-fields-reads
 
 abbrev Inv-loop : tie.InvT-loop
-Inv-loop room₀ rack₀ kept₀ code₀ more₀ reads₀ room rack kept code more reads = (length room ≡ length room₀) × (rack .line .count ≤ 64) × (more ≡ true → kept ≤ 18)
+Inv-loop room₀ rack₀ kept₀ code₀ more₀ reads₀ room rack kept code more reads = (length room ≡ length room₀) × Able rack × (more ≡ true → kept ≤ 18)
 
 abbrev μ-loop : tie.MeasureT-loop
 μ-loop room₀ rack₀ kept₀ code₀ more₀ reads₀ room rack kept code more reads = reads
