@@ -28,6 +28,7 @@ use Rattle.serial.specs.View.{wireOf, Short}
 use Rattle.plain.specs.Plain.{leastReply}
 use Rattle.slots.specs.View.{viewOf, rackIs, due}
 use Rattle.pieces.specs.Pieces.{After, Leaves, slotsAfter, refusedAs, sampleAs, itemsAt, PieceRefused, PieceTaken, PieceDoes}
+use Rattle.engine.specs.declared.Worked.{Worked}
 use Rattle.engine.specs.Engine.{Ran, ran, afterField, fieldsFrom, fieldsOn, fullAt}
 use Rattle.pieces.proofs.Pieces.{bad-header, sample-done}
 use Rattle.engine.proofs.Spent.{spent}
@@ -245,6 +246,11 @@ pub record Unmoved (ss₀ : List Supply) (l₀ : Line) (b : List ℕ) (at n : �
 
 pub unmoved-start : (ss : List Supply) (l : Line) (b : List ℕ) (at n : ℕ) → Unmoved ss l b at n ss l 0 at 0 0 true b
 unmoved-start ss l b at n = record { slots-are = refl; line-is = refl; used-is = refl; next-is = refl; left-is = refl; buffer-is = refl; code-is = λ g. absurd (true≢false g) }
+
+-- the answer where the first field is refused, from what each part of it is
+pub refused-answer : (ss ss₀ : List Supply) (l l₀ : Line) (u u₀ : Setup) (used next code at n : ℕ) → ss ≡ ss₀ → l ≡ l₀ → u ≡ u₀ → used ≡ 0 → next ≡ at → code ≡ n
+    → _≡_ {A = Worked} (record { rack = rackIs ss l u; used = used; next = next; code = code }) (record { rack = rackIs ss₀ l₀ u₀; used = 0; next = at; code = n })
+refused-answer ss ss₀ l l₀ u u₀ used next code at n slots line setup none unsaid refused = rw (slots, line, setup, none, unsaid, refused) refl
 
 abbrev isTaken : Parsed → Bool
 isTaken (refuse n) = false

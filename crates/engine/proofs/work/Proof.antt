@@ -10,7 +10,7 @@ use Rattle.supply.specs.State.{fresh}
 use Rattle.serial.specs.View.{lineOf}
 use Rattle.pieces.specs.Pieces.{eventAs}
 use Rattle.pieces.proofs.Pieces.{not-serial, sample-known}
-use Rattle.engine.proofs.Stands.{Inv, inv-start, left-in, used-in, used-less, inv-next, sample-in, sample-less, inv-sample, inv-few, few-less}
+use Rattle.engine.proofs.Stands.{Inv, inv-start, left-in, used-in, used-less, inv-next, sample-in, sample-less, inv-sample, inv-few, few-less, refused-answer}
 use Rattle.engine.proofs.work.Statement.{statement}
 use Rattle.engine.proofs.work.Tie as tie
 use Rattle.engine.proofs.work.Reads as reads
@@ -257,7 +257,7 @@ returns c =
     let l = c .before .loop in
     let i = l .inv .1 in
     let same = l .inv .0 in (
-      λ n e. let f = i .unmoved n (rw same e) in (rw (same, f .slots-are, f .line-is, f .used-is, f .next-is, f .code-is (c .loop-test .left)) refl, f .buffer-is),
+      λ n e. let f = i .unmoved n (rw same e) in (refused-answer _ _ _ _ _ _ _ _ _ _ _ (f .slots-are) (f .line-is) same (f .used-is) (f .next-is) (f .code-is (c .loop-test .left)), f .buffer-is),
       λ h low long.
           let f = i .stands h low long in
           record { small = f .small; said = f .said; is = rw (← same) (f .ended (c .loop-test .left)); put = f .put; whole = f .whole },
