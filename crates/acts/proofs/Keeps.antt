@@ -1,12 +1,13 @@
 -- Margins and limits hold of the fresh supply and are kept by whatever a supply is asked; accepted settings are the admissible ones.
 use mathlib.Core.Path.{_≡_, refl}
 use mathlib.Core.Bool.{Bool, true, false, not, _&&_, _||_}
-use Prim.Native.Nat.{ℕ, _*_}
+use Prim.Native.Nat.{ℕ, _*_, _≤_}
 use native.Mathlib.Omega.{arith}
-use lib.Dec.{ltb, leb, eqb}
+use lib.Dec.{ltb, leb, eqb, lit<}
 use borrow.Author.Tests.{ltb-false, le-ltb, eqb-true}
 use Rattle.base.specs.Choice.{pick}
-use Rattle.base.proofs.Choice.{pick-keeps, or-false}
+use Rattle.base.proofs.Choice.{pick-keeps, or-false, passed}
+use Rattle.models.specs.declared.Limits.{Limits}
 use Rattle.models.specs.Models.{limitsOf, voltReading}
 use Rattle.models.proofs.Rules.{ovp-room}
 use Rattle.supply.specs.declared.Supply.{Supply}
@@ -21,15 +22,14 @@ use Rattle.supply.specs.declared.Act.the-variants.{Lines, Sample, Press, Turn, 
 use Rattle.supply.specs.With.{withFeve, withWant, withArmed, withMode, withFoldTrip, withOvpTrip, withCounts}
 use Rattle.supply.specs.State.{fresh}
 use Rattle.supply.specs.Flt.{onOf, linesClear, inLimit, settled}
-use Rattle.settings.specs.Settings.{withSetting, stepped}
+use Rattle.settings.specs.Settings.{withSetting, leastOf, mostOf, stepped}
 use Rattle.samples.specs.Samples.{sampled}
 use Rattle.events.specs.Events.{anyRises, falls, acFallen, linesChanged, turnedOn, disarmed, pressed, turned}
 use Rattle.codes.specs.Codes.{above105, setCode, orderCode}
 use Rattle.orders.specs.Orders.{remote, remoteBy, outDone, fldDone, reset, ordered}
 use Rattle.acts.specs.Acts.{codeOf, clearingQuery, clearingAct, cleared, acted, closed, performed}
-use Rattle.settings.specs.Lawful.{Lawful, Admissible}
-use Rattle.codes.proofs.Accepted.{passed}
-use Rattle.settings.proofs.Knob.{stepped-nearest}
+use Rattle.settings.specs.Lawful.{Kept, Lawful, Admissible}
+use Rattle.settings.proofs.Knob.{ceiling-le, from-range, stepped-nearest}
 
 pub fresh-lawful : (m : ℕ) → Lawful m (fresh m)
 unfolding fresh
@@ -44,67 +44,47 @@ fresh-lawful m =
       uvl-most = omega arith;
     }
 
-module _ (m : ℕ) (s : Supply) (h : Lawful m s) where
-  -- an accepted figure is admissible
-  pub accepted-admissible : (t : Target) (n : ℕ) → setCode m s t n ≡ 0 → Admissible m s t n
-  unfolding setCode withSetting
-  accepted-admissible Pv n e =
-      let a = passed (above105 (limitsOf m .volts) n) 196 _ e in
+module _ (l : Limits) (s : Supply) where
+  -- the checks of a figure let through what lies between the least and the most value, on any supply
+  pub accepted-range : (t : Target) (n : ℕ) → setCode l s t n ≡ 0 → (leastOf l s t ≤ n) × (n ≤ mostOf l s t)
+  unfolding setCode leastOf mostOf
+  accepted-range Pv n e =
+      let a = passed (above105 (l .volts) n) 196 _ e in
       let b = passed (ltb (20 * s .ovp) (21 * n)) 224 _ (a .1) in
       let c = passed (ltb (19 * n) (20 * s .uvl)) 225 _ (b .1) in
-      record {
-        uvl-margin = ltb-false _ _ (c .0);
-        ovp-margin = ltb-false _ _ (b .0);
-        pv-limit = ltb-false _ _ (a .0);
-        pc-limit = h .pc-limit;
-        ovp-least = h .ovp-least;
-        ovp-most = h .ovp-most;
-        uvl-most = h .uvl-most;
-      }
-  accepted-admissible Pc n e =
-      let a = passed (above105 (limitsOf m .amps) n) 196 _ e in
-      record {
-        uvl-margin = h .uvl-margin;
-        ovp-margin = h .ovp-margin;
-        pv-limit = h .pv-limit;
-        pc-limit = ltb-false _ _ (a .0);
-        ovp-least = h .ovp-least;
-        ovp-most = h .ovp-most;
-        uvl-most = h .uvl-most;
-      }
-  accepted-admissible Ovp n e =
-      let a = passed (ltb n (limitsOf m .«ovp_least») || ltb (limitsOf m .«ovp_most») n) 196 _ e in
+      let pv-limit : 20 * n ≤ 21 * l .volts = ltb-false _ _ (a .0) in
+      let ovp-margin : 21 * n ≤ 20 * s .ovp = ltb-false _ _ (b .0) in
+      let uvl-margin : 20 * s .uvl ≤ 19 * n = ltb-false _ _ (c .0) in
+      (ceiling-le 19 (20 * s .uvl) n (lit< tt) (omega arith), omega arith)
+  accepted-range Pc n e =
+      let a = passed (above105 (l .amps) n) 196 _ e in
+      let pc-limit : 20 * n ≤ 21 * l .amps = ltb-false _ _ (a .0) in
+      (omega arith, omega arith)
+  accepted-range Ovp n e =
+      let a = passed (ltb n (l .«ovp_least») || ltb (l .«ovp_most») n) 196 _ e in
       let b = passed (ltb (20 * n) (21 * s .pv)) 227 _ (a .1) in
-      let o = or-false (ltb n (limitsOf m .«ovp_least»)) (ltb (limitsOf m .«ovp_most») n) (a .0) in
-      record {
-        uvl-margin = h .uvl-margin;
-        ovp-margin = ltb-false _ _ (b .0);
-        pv-limit = h .pv-limit;
-        pc-limit = h .pc-limit;
-        ovp-least = ltb-false _ _ (o .0);
-        ovp-most = ltb-false _ _ (o .1);
-        uvl-most = h .uvl-most;
-      }
-  accepted-admissible Uvl n e =
-      let a = passed (ltb (limitsOf m .«uvl_most») n) 196 _ e in
+      let o = or-false (ltb n (l .«ovp_least»)) (ltb (l .«ovp_most») n) (a .0) in
+      let ovp-least : l .«ovp_least» ≤ n = ltb-false _ _ (o .0) in
+      let ovp-margin : 21 * s .pv ≤ 20 * n = ltb-false _ _ (b .0) in
+      (omega (arith, ceiling-le 20 (21 * s .pv) n (lit< tt) (omega arith)), ltb-false _ _ (o .1))
+  accepted-range Uvl n e =
+      let a = passed (ltb (l .«uvl_most») n) 196 _ e in
       let b = passed (ltb (19 * s .pv) (20 * n)) 229 _ (a .1) in
-      record {
-        uvl-margin = ltb-false _ _ (b .0);
-        ovp-margin = h .ovp-margin;
-        pv-limit = h .pv-limit;
-        pc-limit = h .pc-limit;
-        ovp-least = h .ovp-least;
-        ovp-most = h .ovp-most;
-        uvl-most = ltb-false _ _ (a .0);
-      }
+      let uvl-most : n ≤ l .«uvl_most» = ltb-false _ _ (a .0) in
+      let uvl-margin : 20 * n ≤ 19 * s .pv = ltb-false _ _ (b .0) in
+      (omega arith, omega arith)
 
--- and an admissible one is accepted
-pub admissible-accepted : (m : ℕ) (s : Supply) (t : Target) (n : ℕ) → Admissible m s t n → setCode m s t n ≡ 0
-unfolding setCode withSetting
-admissible-accepted m s Pv n a = rw (le-ltb _ _ (a .pv-limit), le-ltb _ _ (a .ovp-margin), le-ltb _ _ (a .uvl-margin)) refl
-admissible-accepted m s Pc n a = rw (le-ltb _ _ (a .pc-limit)) refl
-admissible-accepted m s Ovp n a = rw (le-ltb _ _ (a .ovp-least), le-ltb _ _ (a .ovp-most), le-ltb _ _ (a .ovp-margin)) refl
-admissible-accepted m s Uvl n a = rw (le-ltb _ _ (a .uvl-most), le-ltb _ _ (a .uvl-margin)) refl
+  -- so an accepted figure is admissible, where the supply keeps margins and limits
+  pub accepted-admissible : Kept l s → (t : Target) (n : ℕ) → setCode l s t n ≡ 0 → Admissible l s t n
+  accepted-admissible h t n e = let r = accepted-range t n e in from-range l s t n h (r .0) (r .1)
+
+  -- and an admissible one is accepted
+  pub admissible-accepted : (t : Target) (n : ℕ) → Admissible l s t n → setCode l s t n ≡ 0
+  unfolding setCode withSetting
+  admissible-accepted Pv n a = rw (le-ltb _ _ (a .pv-limit), le-ltb _ _ (a .ovp-margin), le-ltb _ _ (a .uvl-margin)) refl
+  admissible-accepted Pc n a = rw (le-ltb _ _ (a .pc-limit)) refl
+  admissible-accepted Ovp n a = rw (le-ltb _ _ (a .ovp-least), le-ltb _ _ (a .ovp-most), le-ltb _ _ (a .ovp-margin)) refl
+  admissible-accepted Uvl n a = rw (le-ltb _ _ (a .uvl-most), le-ltb _ _ (a .uvl-margin)) refl
 
 module _ (m : ℕ) where
   abbrev K : (t : Bool) (a b : Supply) → Lawful m a → Lawful m b → Lawful m (pick t a b)
@@ -148,7 +128,7 @@ module _ (m : ℕ) where
   -- ONE LAW FOR THE KNOBS
   pub knob-keeps : (s : Supply) (t : Target) (raw : ℕ) → Lawful m s → Lawful m (turned m s t raw)
   unfolding turned
-  knob-keeps s t raw h = K (eqb (s .mode) 0) (withSetting t (stepped m s t raw) s) s (stepped-nearest m s t raw h .admissible) h
+  knob-keeps s t raw h = K (eqb (s .mode) 0) (withSetting t (stepped (limitsOf m) s t raw) s) s (stepped-nearest (limitsOf m) s t raw h .admissible) h
 
   remote-keeps : (s : Supply) → Lawful m s → Lawful m (remote s)
   unfolding remote
@@ -164,7 +144,7 @@ module _ (m : ℕ) where
   -- ONE LAW FOR ALL ORDERS, each accepted
   pub order-keeps : (s : Supply) (o : Order) → orderCode m s o ≡ 0 → Lawful m s → Lawful m (ordered m s o)
   unfolding ordered orderCode outDone fldDone reset
-  order-keeps s (Set t n) e h = remote-by-keeps t (withSetting t n s) (accepted-admissible m s h t n e)
+  order-keeps s (Set t n) e h = remote-by-keeps t (withSetting t n s) (accepted-admissible (limitsOf m) s h t n e)
   order-keeps s Ovm e h =
       record {
         uvl-margin = h .uvl-margin;

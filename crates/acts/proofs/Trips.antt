@@ -6,7 +6,7 @@ use lib.Dec.{leb, eqb}
 use borrow.Author.Tests.{eqb-true, eq-eqb}
 use Rattle.base.specs.Choice.{pick}
 use Rattle.base.proofs.Choice.{pick-true}
-use Rattle.models.specs.Models.{voltReading}
+use Rattle.models.specs.Models.{limitsOf, voltReading}
 use Rattle.supply.specs.declared.Supply.{Supply}
 use Rattle.supply.specs.declared.Key.{Key}
 use Rattle.supply.specs.declared.Key.the-variants.{Output, Fold, Local}
@@ -180,7 +180,7 @@ module _ (m : ℕ) (k : Trip) (s : Supply) where
 
   knob-trip : (t : Target) (raw : ℕ) → isSet k (turned m s t raw) ≡ isSet k s
   unfolding turned
-  knob-trip t raw = rw (pick-trip k (eqb (s .mode) 0) (withSetting t (stepped m s t raw) s) s, setting-same k t (stepped m s t raw) s) (same-pick (eqb (s .mode) 0) (isSet k s))
+  knob-trip t raw = rw (pick-trip k (eqb (s .mode) 0) (withSetting t (stepped (limitsOf m) s t raw) s) s, setting-same k t (stepped (limitsOf m) s t raw) s) (same-pick (eqb (s .mode) 0) (isSet k s))
 
   order-trip : (o : Order) → orderCode m s o ≡ 0 → isSet k (ordered m s o) ≡ left (orderReleases m k s o) (isSet k s)
   unfolding ordered outDone fldDone

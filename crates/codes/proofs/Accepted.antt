@@ -1,12 +1,11 @@
 -- An accepted figure: it passed each check in turn, so it fits 32 bits.
-use mathlib.Core.Path.{_≡_, refl}
-use mathlib.Core.Bool.{Bool, true, false, _||_}
-use Prim.Native.Nat.{ℕ, suc, _*_, _%_, _^_, _<_}
+use mathlib.Core.Path.{_≡_}
+use mathlib.Core.Bool.{_||_}
+use Prim.Native.Nat.{ℕ, _*_, _%_, _^_, _<_}
 use native.Mathlib.Omega.{arith}
 use lib.Dec.{ltb}
 use borrow.Author.Tests.{ltb-false}
-use Rattle.base.specs.Choice.{pick}
-use Rattle.base.proofs.Choice.{or-false}
+use Rattle.base.proofs.Choice.{or-false, passed}
 use Rattle.models.specs.Models.{limitsOf}
 use Rattle.models.proofs.Rules.{volts-lt, amps-lt, ovp-most-lt, uvl-most-lt}
 use Rattle.supply.specs.declared.Supply.{Supply}
@@ -15,12 +14,7 @@ use Rattle.supply.specs.declared.Target.the-variants.{Pv, Pc, Ovp, Uvl}
 use Rattle.supply.specs.declared.Order.the-variants.{Set}
 use Rattle.codes.specs.Codes.{above105, setCode, orderCode}
 
--- a chain of checks is passed where each is; a code is never 0
-pub passed : (t : Bool) (x k : ℕ) → pick t (suc x) k ≡ 0 → (t ≡ false) × (k ≡ 0)
-passed true x k e = absurd (omega arith)
-passed false x k e = (refl, e)
-
-pub set-fits : (m : ℕ) (s : Supply) (t : Target) (n : ℕ) → setCode m s t n ≡ 0 → n < 2 ^ 32
+pub set-fits : (m : ℕ) (s : Supply) (t : Target) (n : ℕ) → setCode (limitsOf m) s t n ≡ 0 → n < 2 ^ 32
 unfolding setCode
 set-fits m s Pv n e = omega (arith, volts-lt m, ltb-false (21 * limitsOf m .volts) (20 * n) (passed (above105 (limitsOf m .volts) n) 196 _ e .0))
 set-fits m s Pc n e = omega (arith, amps-lt m, ltb-false (21 * limitsOf m .amps) (20 * n) (passed (above105 (limitsOf m .amps) n) 196 _ e .0))

@@ -3,6 +3,7 @@ use Prim.Native.Nat.{ℕ, _*_}
 use mathlib.Core.Bool.{Bool, true, false, _||_}
 use lib.Dec.{ltb}
 use Rattle.base.specs.Choice.{pick}
+use Rattle.models.specs.declared.Limits.{Limits}
 use Rattle.models.specs.Models.{limitsOf}
 use Rattle.supply.specs.declared.Supply.{Supply}
 use Rattle.supply.specs.declared.Target.{Target}
@@ -16,18 +17,18 @@ use Rattle.supply.specs.Flt.{linesClear}
 abbrev pub above105 : ℕ → ℕ → Bool
 above105 rating n = ltb (21 * rating) (20 * n)
 
--- a figure for a setting: its checks in turn, the first that fails giving the code
-unfoldable pub setCode : ℕ → Supply → Target → ℕ → ℕ
-setCode m s Pv n =
-    pick (above105 (limitsOf m .volts) n) c05
+-- a figure for a setting, under any five limits: its checks in turn, the first that fails giving the code
+unfoldable pub setCode : Limits → Supply → Target → ℕ → ℕ
+setCode l s Pv n =
+    pick (above105 (l .volts) n) c05
     (pick (ltb (20 * s .ovp) (21 * n)) e01
     (pick (ltb (19 * n) (20 * s .uvl)) e02 0))
-setCode m s Pc n = pick (above105 (limitsOf m .amps) n) c05 0
-setCode m s Ovp n =
-    pick (ltb n (limitsOf m .«ovp_least») || ltb (limitsOf m .«ovp_most») n) c05
+setCode l s Pc n = pick (above105 (l .amps) n) c05 0
+setCode l s Ovp n =
+    pick (ltb n (l .«ovp_least») || ltb (l .«ovp_most») n) c05
     (pick (ltb (20 * n) (21 * s .pv)) e04 0)
-setCode m s Uvl n =
-    pick (ltb (limitsOf m .«uvl_most») n) c05
+setCode l s Uvl n =
+    pick (ltb (l .«uvl_most») n) c05
     (pick (ltb (19 * s .pv) (20 * n)) e06 0)
 
 -- OUT 1 is E07 where LINES is not 0, OUT 0 has no check
@@ -35,8 +36,9 @@ abbrev pub outCode : Bool → Bool → ℕ
 outCode true clear = pick clear 0 e07
 outCode false clear = 0
 
+-- an order to a supply of model m
 unfoldable pub orderCode : ℕ → Supply → Order → ℕ
-orderCode m s (Set t n) = setCode m s t n
+orderCode m s (Set t n) = setCode (limitsOf m) s t n
 orderCode m s Ovm = 0
 orderCode m s (Out b) = outCode b (linesClear s)
 orderCode m s (Fld b) = 0

@@ -4,6 +4,7 @@ ghost use mathlib.Core.Bool.{_||_};
 ghost use Prim.Native.Nat.{_*_};
 ghost use lib.Dec.{ltb};
 ghost use Rattle.base.specs.Choice.{pick};
+ghost use Rattle.models.specs.Models.{limitsOf};
 ghost use Rattle.supply.specs.State.{c05, e01, e02, e04, e06};
 ghost use Rattle.codes.specs.Codes.{above105, setCode, outCode, orderCode};
 use supply::C05;
@@ -71,7 +72,7 @@ fn uvl_code(most: u32, pv: u32, n: u64) -> u8
 // The code of PV n, PC n, OVP n or UVL n. Each arm looks up its limits for itself: the compiler then reads
 // only those that the arm needs.
 pub fn set_code(model: u8, s: Supply, t: Target, n: u64) -> u8
-    ensures { λ r. ⌜ r ≡ setCode model s t n ⌝ }
+    ensures { λ r. ⌜ r ≡ setCode (limitsOf model) s t n ⌝ }
 {
     match t {
         Target::Pv => {

@@ -5,6 +5,7 @@ use lib.Bits.{bitAnd}
 use lib.Dec.{eqb}
 use Rattle.base.specs.Choice.{pick}
 use Rattle.base.specs.Bits.{bitAt}
+use Rattle.models.specs.Models.{limitsOf}
 use Rattle.supply.specs.declared.Supply.{Supply}
 use Rattle.supply.specs.declared.Key.{Key}
 use Rattle.supply.specs.declared.Key.the-variants.{Output, Fold, Local}
@@ -47,4 +48,4 @@ pressed s Local = pick (eqb (s .mode) 1) (withMode 0 s) s
 
 -- the knob, in MODE 0
 unfoldable pub turned : ℕ → Supply → Target → ℕ → Supply
-turned m s t raw = pick (eqb (s .mode) 0) (withSetting t (stepped m s t raw) s) s
+turned m s t raw = pick (eqb (s .mode) 0) (withSetting t (stepped (limitsOf m) s t raw) s) s

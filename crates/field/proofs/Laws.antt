@@ -1,5 +1,5 @@
 -- What a field's bytes come to: a law for each outcome, what a good head says of the payload, and the bounds of its numbers.
-use Prim.Native.Nat.{ℕ, suc, _+_, _^_, _≤_, _<_}
+use Prim.Native.Nat.{ℕ, _+_, _^_, _≤_, _<_}
 use mathlib.Core.Path.{_≡_, refl, sym, ap, _∙_}
 use mathlib.Core.Logic.{_⊎_, inl, inr}
 use mathlib.Core.List.{List, [], _∷_, _++_, map}
@@ -10,7 +10,7 @@ use lib.ListN.{length, getD, take, drop, length-drop, length-append}
 use lib.Seq.{getD-take, getD-drop, length-take-le, take-append-seam, take-append-le, drop-append-le}
 use borrow.Author.Tests.{ltb-true, ltb-false, leb-true, eqb-true, eqb-false, not-false, lt-ltb, le-ltb, eq-eqb, ne-eqb}
 use Rattle.base.specs.Choice.{pick}
-use Rattle.base.proofs.Choice.{pick-keeps, and-both}
+use Rattle.base.proofs.Choice.{pick-keeps, and-both, passed}
 use Rattle.wire.specs.Wire.{field, Item, byte, event, Parsed, refuse, accept}
 use Rattle.supply.specs.declared.Act.the-variants.{Sample}
 use Rattle.field.specs.Fields.{pairAt, quadAt, tagOf, lengthOf, payloadOf, lengthFits, headerCode, isSample, valuesFit, actOf, readField}
@@ -59,11 +59,6 @@ length-most t n =
     pick-keeps (λ (x : Bool). x ≡ true → n ≤ 16) (eqb t 1) (leb 1 n && leb n 16) (pick (eqb t 3) (eqb n 6) (pick (eqb t 5) (eqb n 5) (eqb n 2))) (λ e. leb-true n 16 (and-both (leb 1 n) (leb n 16) e .1))
     (pick-keeps (λ (x : Bool). x ≡ true → n ≤ 16) (eqb t 3) (eqb n 6) (pick (eqb t 5) (eqb n 5) (eqb n 2)) (λ e. omega (arith, eqb-true n 6 e))
     (pick-keeps (λ (x : Bool). x ≡ true → n ≤ 16) (eqb t 5) (eqb n 5) (eqb n 2) (λ e. omega (arith, eqb-true n 5 e)) (λ e. omega (arith, eqb-true n 2 e))))
-
--- a chain of refusals is passed where each is; a refusal is never 0
-passed : (t : Bool) (x k : ℕ) → pick t (suc x) k ≡ 0 → (t ≡ false) × (k ≡ 0)
-passed true x k e = absurd (omega arith)
-passed false x k e = (refl, e)
 
 -- A GOOD HEAD
 pub header-good : (b : List ℕ) → headerCode b ≡ 0 → (3 + lengthOf b ≤ length b) × (1 ≤ tagOf b) × (tagOf b ≤ 5) × (lengthFits (tagOf b) (lengthOf b) ≡ true)

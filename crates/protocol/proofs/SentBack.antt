@@ -13,6 +13,7 @@ use Rattle.prints.specs.Figure.{fixed, shortest, decimals, figure}
 use Rattle.prints.proofs.Print.{length-fixed}
 use Rattle.prints.proofs.RoundTrip.{read-short}
 use Rattle.words.specs.Words.{findWord}
+use Rattle.models.specs.Models.{limitsOf}
 use Rattle.supply.specs.declared.Supply.{Supply}
 use Rattle.supply.specs.declared.Target.{Target}
 use Rattle.supply.specs.declared.Target.the-variants.{Pv, Pc, Ovp, Uvl}
@@ -93,7 +94,7 @@ read-back m s Uvl l = rw (no-sum (orderWord Uvl) (figure 4 (s .uvl)) (omega (ari
 -- a setting that is sent back where it stands is accepted, and stays
 sent-accepted : (m : ℕ) (s : Supply) (t : Target) → Lawful m s → codeOf m s (Obey (Set t (settingOf t s))) ≡ 0
 unfolding codeOf orderCode
-sent-accepted m s t h = admissible-accepted m s t (settingOf t s) (rw (same-setting m s t) h)
+sent-accepted m s t h = admissible-accepted (limitsOf m) s t (settingOf t s) (rw (same-setting s t) h)
 
 remote-setting : (t : Target) (s : Supply) → settingOf t (remote s) ≡ settingOf t s
 unfolding remote settingOf
@@ -120,7 +121,7 @@ sent-leaves : (m : ℕ) (s : Supply) (t : Target) → Lawful m s → settingOf t
 unfolding performed acted ordered clearingAct clearingOrder
 sent-leaves m s t h =
     rw (sent-accepted m s t h)
-    (settled-setting t s (remoteBy t (withSetting t (settingOf t s) s)) ∙ remote-by-setting t (withSetting t (settingOf t s) s) ∙ ap (settingOf t) (same-setting m s t))
+    (settled-setting t s (remoteBy t (withSetting t (settingOf t s) s)) ∙ remote-by-setting t (withSetting t (settingOf t s) s) ∙ ap (settingOf t) (same-setting s t))
 
 query-asked : (t : Target) → heardOf (queryWord t) false ≡ heardAs (One (Ask (queryOf t))) false
 unfolding heardOf asksOf askedBy parameterOf findWord firstAt

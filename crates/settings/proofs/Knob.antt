@@ -1,41 +1,50 @@
--- The values that a setting may take are an interval, and the knob gives the one of them nearest to the exact sum.
-use mathlib.Core.Path.{_≡_, refl}
+-- Under any limits: the values that a setting may take are an interval, and the knob gives the one of them nearest to the exact sum.
+use mathlib.Core.Path.{_≡_, refl, sym, _∙_}
 use mathlib.Core.Bool.{Bool, true, false, cond}
-use Prim.Native.Nat.{ℕ, zero, suc, _+_, _-_, _*_, _/_, _≤_, _<_, min, max}
+use Prim.Native.Nat.{ℕ, zero, suc, _+_, _-_, _*_, _/_, _≤_, _<_}
 use native.Mathlib.Nat.{suc-mul, div-lt-iff-lt-mul}
 use native.Mathlib.Omega.{arith}
 use lib.Dec.{ltb, lit<}
 use lib.IntN.{ℤ, pos, negsuc, _+ℤ_, _-ℤ_, natAbs}
 use borrow.Author.Tests.{ltb-true, ltb-false}
+use Rattle.models.specs.declared.Limits.{Limits}
 use Rattle.supply.specs.declared.Supply.{Supply}
 use Rattle.supply.specs.declared.Target.{Target}
 use Rattle.supply.specs.declared.Target.the-variants.{Pv, Pc, Ovp, Uvl}
 use Rattle.settings.specs.Settings.{settingOf, withSetting, leastOf, mostOf, signedOf, nearestIn, stepped}
-use Rattle.settings.specs.Lawful.{Lawful, Admissible, Nearest}
+use Rattle.settings.specs.Lawful.{Kept, Admissible, Nearest}
 
 -- a quotient rounded up is at most x just where the product says so
 module _ (q n x : ℕ) (some : 0 < q) where
   le-of-ceiling : (n + (q - 1)) / q ≤ x → n ≤ x * q
   le-of-ceiling h = let r : n + (q - 1) < suc x * q = div-lt-iff-lt-mul some .0 (omega arith) in omega (arith, rw suc-mul at r)
 
-  ceiling-le : n ≤ x * q → (n + (q - 1)) / q ≤ x
+  pub ceiling-le : n ≤ x * q → (n + (q - 1)) / q ≤ x
   ceiling-le h = let r : n + (q - 1) < suc x * q = rw suc-mul (omega arith) in omega (arith, div-lt-iff-lt-mul {y = suc x} some .1 r)
 
-module _ (m : ℕ) (s : Supply) where
+-- a setting put where it stands
+pub same-setting : (s : Supply) (t : Target) → withSetting t (settingOf t s) s ≡ s
+unfolding withSetting settingOf
+same-setting s Pv = refl
+same-setting s Pc = refl
+same-setting s Ovp = refl
+same-setting s Uvl = refl
+
+module _ (l : Limits) (s : Supply) where
   -- an admissible value lies between the least and the most
-  pub in-range : (t : Target) (x : ℕ) → Admissible m s t x → (leastOf m s t ≤ x) × (x ≤ mostOf m s t)
+  pub in-range : (t : Target) (x : ℕ) → Admissible l s t x → (leastOf l s t ≤ x) × (x ≤ mostOf l s t)
   unfolding withSetting leastOf mostOf
   in-range Pv x h = (ceiling-le 19 (20 * s .uvl) x (lit< tt) (omega (arith, h .uvl-margin)), omega (arith, h .ovp-margin, h .pv-limit))
   in-range Pc x h = (omega arith, omega (arith, h .pc-limit))
   in-range Ovp x h = (omega (arith, h .ovp-least, ceiling-le 20 (21 * s .pv) x (lit< tt) (omega (arith, h .ovp-margin))), h .ovp-most)
   in-range Uvl x h = (omega arith, omega (arith, h .uvl-most, h .uvl-margin))
 
-  -- and every value between them is admissible, the supply itself being lawful
-  pub from-range : (t : Target) (x : ℕ) → Lawful m s → leastOf m s t ≤ x → x ≤ mostOf m s t → Admissible m s t x
+  -- and every value between them is admissible, where the supply itself keeps margins and limits
+  pub from-range : (t : Target) (x : ℕ) → Kept l s → leastOf l s t ≤ x → x ≤ mostOf l s t → Admissible l s t x
   unfolding withSetting leastOf mostOf
-  from-range Pv x h l u =
+  from-range Pv x h lo hi =
       record {
-        uvl-margin = omega (arith, le-of-ceiling 19 (20 * s .uvl) x (lit< tt) l);
+        uvl-margin = omega (arith, le-of-ceiling 19 (20 * s .uvl) x (lit< tt) lo);
         ovp-margin = omega arith;
         pv-limit = omega arith;
         pc-limit = h .pc-limit;
@@ -43,7 +52,7 @@ module _ (m : ℕ) (s : Supply) where
         ovp-most = h .ovp-most;
         uvl-most = h .uvl-most;
       }
-  from-range Pc x h l u =
+  from-range Pc x h lo hi =
       record {
         uvl-margin = h .uvl-margin;
         ovp-margin = h .ovp-margin;
@@ -53,17 +62,17 @@ module _ (m : ℕ) (s : Supply) where
         ovp-most = h .ovp-most;
         uvl-most = h .uvl-most;
       }
-  from-range Ovp x h l u =
+  from-range Ovp x h lo hi =
       record {
         uvl-margin = h .uvl-margin;
         ovp-margin = omega (arith, le-of-ceiling 20 (21 * s .pv) x (lit< tt) (omega arith));
         pv-limit = h .pv-limit;
         pc-limit = h .pc-limit;
         ovp-least = omega arith;
-        ovp-most = u;
+        ovp-most = hi;
         uvl-most = h .uvl-most;
       }
-  from-range Uvl x h l u =
+  from-range Uvl x h lo hi =
       record {
         uvl-margin = omega arith;
         ovp-margin = h .ovp-margin;
@@ -74,17 +83,17 @@ module _ (m : ℕ) (s : Supply) where
         uvl-most = omega arith;
       }
 
-  -- a setting put where it stands
-  pub same-setting : (t : Target) → withSetting t (settingOf t s) s ≡ s
-  unfolding withSetting settingOf
-  same-setting Pv = refl
-  same-setting Pc = refl
-  same-setting Ovp = refl
-  same-setting Uvl = refl
+  -- so the interval of a supply that keeps margins and limits is not empty: it holds the setting as it stands
+  pub not-empty : (t : Target) → Kept l s → leastOf l s t ≤ mostOf l s t
+  not-empty t h = let r = in-range t (settingOf t s) (rw (same-setting s t) h) in omega arith
 
-  -- so the interval of a lawful supply is not empty: it holds the setting as it stands
-  pub not-empty : (t : Target) → Lawful m s → leastOf m s t ≤ mostOf m s t
-  not-empty t h = let r = in-range t (settingOf t s) (rw (same-setting t) h) in omega arith
+-- the interval is the same wherever the setting itself stands: where one value is admissible, all of the interval is
+pub from-other : (l : Limits) (s : Supply) (t : Target) (x y : ℕ) → Admissible l s t x → leastOf l s t ≤ y → y ≤ mostOf l s t → Admissible l s t y
+unfolding withSetting leastOf mostOf
+from-other l s Pv x y a lo hi = from-range l (withSetting Pv x s) Pv y a lo hi
+from-other l s Pc x y a lo hi = from-range l (withSetting Pc x s) Pc y a lo hi
+from-other l s Ovp x y a lo hi = from-range l (withSetting Ovp x s) Ovp y a lo hi
+from-other l s Uvl x y a lo hi = from-range l (withSetting Uvl x s) Uvl y a lo hi
 
 -- the distance of a whole number from an integer
 dist-below : (v k : ℕ) → natAbs (pos v -ℤ pos k) ≡ (v - k) + (k - v)
@@ -103,16 +112,39 @@ module _ (lo hi : ℕ) (some : lo ≤ hi) where
 
   pub nearest-is : (z : ℤ) (y : ℕ) → lo ≤ y → y ≤ hi → natAbs (pos (nearestIn lo hi z) -ℤ z) ≤ natAbs (pos y -ℤ z)
   unfolding nearestIn
-  nearest-is (pos k) y l u = rw (dist-below (min hi (max lo k)) k, dist-below y k) (omega arith)
+  nearest-is (pos k) y l u = rw (dist-below (nearestIn lo hi (pos k)) k, dist-below y k) (omega arith)
   nearest-is (negsuc k) y l u = omega arith
 
-pub stepped-nearest : (m : ℕ) (s : Supply) (t : Target) (raw : ℕ) → Lawful m s → Nearest m s t raw (stepped m s t raw)
-unfolding stepped
-stepped-nearest m s t raw h =
-    let z = pos (settingOf t s) +ℤ signedOf raw in
-    let e = not-empty m s t h in
-    let b = nearest-in (leastOf m s t) (mostOf m s t) e z in
-    record {
-      admissible = from-range m s t (nearestIn (leastOf m s t) (mostOf m s t) z) h (b .0) (b .1);
-      nearest = λ y a. let r = in-range m s t y a in nearest-is (leastOf m s t) (mostOf m s t) e z y (r .0) (r .1);
-    }
+  -- and no other is as near
+  pub nearest-alone : (z : ℤ) (y : ℕ) → lo ≤ y → y ≤ hi → natAbs (pos y -ℤ z) ≤ natAbs (pos (nearestIn lo hi z) -ℤ z) → y ≡ nearestIn lo hi z
+  unfolding nearestIn
+  nearest-alone (pos k) y l u h = omega (arith, rw (dist-below (nearestIn lo hi (pos k)) k, dist-below y k) at h)
+  nearest-alone (negsuc k) y l u h = omega arith
+
+module _ (l : Limits) (s : Supply) (t : Target) (raw : ℕ) where
+  -- THE KNOB, on a supply that keeps margins and limits
+  pub stepped-nearest : Kept l s → Nearest l s t raw (stepped l s t raw)
+  unfolding stepped
+  stepped-nearest h =
+      let z = pos (settingOf t s) +ℤ signedOf raw in
+      let e = not-empty l s t h in
+      let b = nearest-in (leastOf l s t) (mostOf l s t) e z in
+      record {
+        admissible = from-range l s t (nearestIn (leastOf l s t) (mostOf l s t) z) h (b .0) (b .1);
+        nearest = λ y a. let r = in-range l s t y a in nearest-is (leastOf l s t) (mostOf l s t) e z y (r .0) (r .1);
+      }
+
+  -- on any supply, what it gives is the only value that can be nearest
+  pub nearest-stepped : (n : ℕ) → Nearest l s t raw n → n ≡ stepped l s t raw
+  unfolding stepped
+  nearest-stepped n h =
+      let z = pos (settingOf t s) +ℤ signedOf raw in
+      let r = in-range l s t n (h .admissible) in
+      let e : leastOf l s t ≤ mostOf l s t = omega arith in
+      let b = nearest-in (leastOf l s t) (mostOf l s t) e z in
+      let x = nearestIn (leastOf l s t) (mostOf l s t) z in
+      nearest-alone (leastOf l s t) (mostOf l s t) e z n (r .0) (r .1) (h .nearest x (from-other l s t n x (h .admissible) (b .0) (b .1)))
+
+  -- so there is one nearest value at most
+  pub nearest-one : (n k : ℕ) → Nearest l s t raw n → Nearest l s t raw k → n ≡ k
+  nearest-one n k h i = nearest-stepped n h ∙ sym (nearest-stepped k i)

@@ -6,14 +6,15 @@ use native.Mathlib.Omega.{arith}
 use lib.Dec.{ltb}
 use lib.IntN.{pos, negsuc, _+ℤ_}
 use borrow.Author.Tests.{ltb-true, ltb-false, le-ltb}
+use Rattle.models.specs.Models.{limitsOf}
 use Rattle.models.proofs.Rules.{volts-lt, amps-lt, ovp-most-lt, uvl-most-lt}
 use Rattle.supply.specs.declared.Supply.{Supply}
 use Rattle.supply.specs.declared.Target.{Target}
 use Rattle.supply.specs.declared.Target.the-variants.{Pv, Pc, Ovp, Uvl}
 use Rattle.settings.specs.Settings.{mostOf, signedOf, natPart}
 
--- the greatest value of a setting fits 32 bits
-pub most-fits : (m : ℕ) (s : Supply) (t : Target) → mostOf m s t < 2 ^ 32
+-- under every model the greatest value of a setting fits 32 bits
+pub most-fits : (m : ℕ) (s : Supply) (t : Target) → mostOf (limitsOf m) s t < 2 ^ 32
 unfolding mostOf
 most-fits m s Pv = omega (arith, volts-lt m)
 most-fits m s Pc = omega (arith, amps-lt m)

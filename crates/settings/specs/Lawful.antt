@@ -1,31 +1,37 @@
--- What holds of every supply that acts lead to: the margins and the model's limits.
+-- What holds of every supply that acts lead to: the margins and the model's limits. All but `Lawful` is said of any five limits, no model named.
 use Prim.Native.Nat.{ℕ, _*_, _≤_}
+use Rattle.models.specs.declared.Limits.{Limits}
 use Rattle.models.specs.Models.{limitsOf}
 use Rattle.supply.specs.declared.Supply.{Supply}
 use Rattle.supply.specs.declared.Target.{Target}
 use lib.IntN.{pos, _+ℤ_, _-ℤ_, natAbs}
 use Rattle.settings.specs.Settings.{settingOf, signedOf, withSetting}
 
--- of the four settings under a model
-pub record Within (m pv pc ovp uvl : ℕ) : Type 0 where
+-- of the four settings, under any limits
+pub record Within (l : Limits) (pv pc ovp uvl : ℕ) : Type 0 where
   -- the margins
   pub uvl-margin : 20 * uvl ≤ 19 * pv
   pub ovp-margin : 21 * pv ≤ 20 * ovp
-  -- the limits of the model, 105 % of a rating among them
-  pub pv-limit : 20 * pv ≤ 21 * limitsOf m .volts
-  pub pc-limit : 20 * pc ≤ 21 * limitsOf m .amps
-  pub ovp-least : limitsOf m .«ovp_least» ≤ ovp
-  pub ovp-most : ovp ≤ limitsOf m .«ovp_most»
-  pub uvl-most : uvl ≤ limitsOf m .«uvl_most»
+  -- the limits, 105 % of a rating among them
+  pub pv-limit : 20 * pv ≤ 21 * l .volts
+  pub pc-limit : 20 * pc ≤ 21 * l .amps
+  pub ovp-least : l .«ovp_least» ≤ ovp
+  pub ovp-most : ovp ≤ l .«ovp_most»
+  pub uvl-most : uvl ≤ l .«uvl_most»
 
+-- the margins and these limits are kept by a supply
+abbrev pub Kept : Limits → Supply → Type 0
+Kept l s = Within l (s .pv) (s .pc) (s .ovp) (s .uvl)
+
+-- the limits being those of a model
 abbrev pub Lawful : ℕ → Supply → Type 0
-Lawful m s = Within m (s .pv) (s .pc) (s .ovp) (s .uvl)
+Lawful m s = Kept (limitsOf m) s
 
 -- a value that a setting may take, the others as they are
-abbrev pub Admissible : ℕ → Supply → Target → ℕ → Type 0
-Admissible m s t x = Lawful m (withSetting t x s)
+abbrev pub Admissible : Limits → Supply → Target → ℕ → Type 0
+Admissible l s t x = Kept l (withSetting t x s)
 
--- THE KNOB: on a lawful supply the value is admissible, and no admissible value is nearer to the exact signed sum
-pub record Nearest (m : ℕ) (s : Supply) (t : Target) (raw x : ℕ) : Type 0 where
-  pub admissible : Admissible m s t x
-  pub nearest : (y : ℕ) → Admissible m s t y → natAbs (pos x -ℤ (pos (settingOf t s) +ℤ signedOf raw)) ≤ natAbs (pos y -ℤ (pos (settingOf t s) +ℤ signedOf raw))
+-- THE KNOB: the value is admissible, and no admissible value is nearer to the exact signed sum
+pub record Nearest (l : Limits) (s : Supply) (t : Target) (raw x : ℕ) : Type 0 where
+  pub admissible : Admissible l s t x
+  pub nearest : (y : ℕ) → Admissible l s t y → natAbs (pos x -ℤ (pos (settingOf t s) +ℤ signedOf raw)) ≤ natAbs (pos y -ℤ (pos (settingOf t s) +ℤ signedOf raw))

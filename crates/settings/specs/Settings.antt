@@ -3,7 +3,7 @@ use Prim.Native.Nat.{ℕ, _+_, _-_, _*_, _/_, min, max}
 use lib.Dec.{ltb}
 use lib.IntN.{ℤ, pos, negsuc, _+ℤ_}
 use Rattle.base.specs.Choice.{pick}
-use Rattle.models.specs.Models.{limitsOf}
+use Rattle.models.specs.declared.Limits.{Limits}
 use Rattle.supply.specs.declared.Supply.{Supply}
 use Rattle.supply.specs.declared.Target.{Target}
 use Rattle.supply.specs.declared.Target.the-variants.{Pv, Pc, Ovp, Uvl}
@@ -21,18 +21,18 @@ withSetting Pc x s = withPc x s
 withSetting Ovp x s = withOvp x s
 withSetting Uvl x s = withUvl x s
 
--- where a setting may stand, the other settings as they are: from the least to the most value that margins and limits allow
-unfoldable pub leastOf : ℕ → Supply → Target → ℕ
-leastOf m s Pv = (20 * s .uvl + 18) / 19
-leastOf m s Pc = 0
-leastOf m s Ovp = max (limitsOf m .«ovp_least») ((21 * s .pv + 19) / 20)
-leastOf m s Uvl = 0
+-- where a setting may stand under any five limits, the other settings as they are: from the least to the most value that margins and limits allow
+unfoldable pub leastOf : Limits → Supply → Target → ℕ
+leastOf l s Pv = (20 * s .uvl + 18) / 19
+leastOf l s Pc = 0
+leastOf l s Ovp = max (l .«ovp_least») ((21 * s .pv + 19) / 20)
+leastOf l s Uvl = 0
 
-unfoldable pub mostOf : ℕ → Supply → Target → ℕ
-mostOf m s Pv = min (21 * limitsOf m .volts / 20) (20 * s .ovp / 21)
-mostOf m s Pc = 21 * limitsOf m .amps / 20
-mostOf m s Ovp = limitsOf m .«ovp_most»
-mostOf m s Uvl = min (limitsOf m .«uvl_most») (19 * s .pv / 20)
+unfoldable pub mostOf : Limits → Supply → Target → ℕ
+mostOf l s Pv = min (21 * l .volts / 20) (20 * s .ovp / 21)
+mostOf l s Pc = 21 * l .amps / 20
+mostOf l s Ovp = l .«ovp_most»
+mostOf l s Uvl = min (l .«uvl_most») (19 * s .pv / 20)
 
 -- a step as it comes, 32 bits in two's complement, is a signed number
 unfoldable pub signedOf : ℕ → ℤ
@@ -48,5 +48,5 @@ unfoldable pub nearestIn : ℕ → ℕ → ℤ → ℕ
 nearestIn lo hi z = min hi (max lo (natPart z))
 
 -- a setting after a knob step: the exact sum, brought into where the setting may stand
-unfoldable pub stepped : ℕ → Supply → Target → ℕ → ℕ
-stepped m s t raw = nearestIn (leastOf m s t) (mostOf m s t) (pos (settingOf t s) +ℤ signedOf raw)
+unfoldable pub stepped : Limits → Supply → Target → ℕ → ℕ
+stepped l s t raw = nearestIn (leastOf l s t) (mostOf l s t) (pos (settingOf t s) +ℤ signedOf raw)

@@ -2,6 +2,7 @@
 ghost use mathlib.Core.Path.{_≡_};
 ghost use Prim.Native.Nat.{min, max};
 ghost use lib.IntN.{pos, _+ℤ_};
+ghost use Rattle.models.specs.Models.{limitsOf};
 ghost use Rattle.settings.specs.Settings.{settingOf, withSetting, leastOf, mostOf, signedOf, natPart, stepped};
 use supply::Supply;
 use supply::Target;
@@ -55,7 +56,7 @@ fn larger(a: u64, b: u64) -> u64
 
 // The least value of a setting that keeps margins and limits.
 fn least_of(model: u8, s: Supply, t: Target) -> u64
-    ensures { λ r. ⌜ r ≡ leastOf model s t ⌝ }
+    ensures { λ r. ⌜ r ≡ leastOf (limitsOf model) s t ⌝ }
 {
     let l = models::limits_of(model);
     match t {
@@ -68,7 +69,7 @@ fn least_of(model: u8, s: Supply, t: Target) -> u64
 
 // The greatest one.
 fn most_of(model: u8, s: Supply, t: Target) -> u64
-    ensures { λ r. ⌜ r ≡ mostOf model s t ⌝ }
+    ensures { λ r. ⌜ r ≡ mostOf (limitsOf model) s t ⌝ }
 {
     let l = models::limits_of(model);
     match t {
@@ -95,7 +96,7 @@ fn summed(x: u32, raw: u32) -> u64
 
 // A setting after a step; where margins or limits forbid the sum, the allowed value next to it.
 pub fn stepped_setting(model: u8, s: Supply, t: Target, raw: u32) -> u32
-    ensures { λ r. ⌜ r ≡ stepped model s t raw ⌝ }
+    ensures { λ r. ⌜ r ≡ stepped (limitsOf model) s t raw ⌝ }
 {
     let lo = least_of(model, s, t);
     let hi = most_of(model, s, t);
