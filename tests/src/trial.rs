@@ -31,6 +31,9 @@ pub struct Expected {
     pub after: Supply,
 }
 
+/// How many numbers of a line are expected: the code, the state after and the answer.
+pub const EXPECTED: usize = 19;
+
 // The kinds of act, as the lines number them.
 const NOTHING: i64 = 0;
 const LINES: i64 = 1;
@@ -71,6 +74,19 @@ impl Trial {
 
     /// The trial with what is expected of it, as one line.
     pub fn line(&self) -> String {
+        line_of(&self.numbers())
+    }
+
+    /// The same with one of the numbers that are expected wrong on purpose.
+    pub fn line_wrong_at(&self, expected: usize) -> String {
+        let mut numbers = self.numbers();
+        let first = numbers.len() - EXPECTED;
+        let number = &mut numbers[first + expected];
+        *number = if *number == 0 { 1 } else { *number - 1 };
+        line_of(&numbers)
+    }
+
+    fn numbers(&self) -> Vec<i64> {
         let expected = self.expected();
         let mut numbers = vec![i64::from(self.before.model)];
         numbers.extend(state_numbers(&self.before));
@@ -78,9 +94,13 @@ impl Trial {
         numbers.push(expected.code.map_or(0, code_number));
         numbers.extend(state_numbers(&expected.after));
         numbers.extend(answer_numbers(self.act, expected.answer.as_deref()));
-        let words: Vec<String> = numbers.iter().map(i64::to_string).collect();
-        words.join(" ") + "\n"
+        numbers
     }
+}
+
+fn line_of(numbers: &[i64]) -> String {
+    let words: Vec<String> = numbers.iter().map(i64::to_string).collect();
+    words.join(" ") + "\n"
 }
 
 fn state_numbers(supply: &Supply) -> [i64; 15] {

@@ -7,7 +7,7 @@ use std::collections::{BTreeSet, HashSet};
 use crate::generate::Draw;
 use crate::supply::{Event, Key, Mode, Order, Query, Supply, Target};
 use crate::supply::{AC, ENA, LINE_BITS, MODELS, OTP, SO};
-use crate::trial::{Act, Trial, QUERIES};
+use crate::trial::{Act, Trial, EXPECTED, QUERIES};
 
 const SEED: u64 = 3;
 const TARGETS: [Target; 4] = [Target::Pv, Target::Pc, Target::Ovp, Target::Uvl];
@@ -23,10 +23,18 @@ const REGISTERS: [u8; 5] = [0, 255, 0b0101_0010, 0b0010_1100, 0b1000_0001];
 /// Which trips stand: FOLD, OVP. Fields never lead to both, but each sentence speaks of one.
 const TRIPS: [(bool, bool); 4] = [(false, false), (true, false), (false, true), (true, true)];
 
-/// All trials as text, a line each and no line twice.
+/// All trials as text, a line each and no line twice, and behind them the wrong lines.
 pub fn table() -> String {
     let mut seen = HashSet::new();
-    all().iter().map(Trial::line).filter(|line| seen.insert(line.clone())).collect()
+    let right = all().into_iter().map(|trial| trial.line());
+    right.chain(wrong()).filter(|line| seen.insert(line.clone())).collect()
+}
+
+/// One trial with each number that is expected changed in turn: a program that tells none of them
+/// compares nothing.
+pub fn wrong() -> Vec<String> {
+    let trial = Trial { before: Supply::fresh(0), act: Act::Query(Query::Flt) };
+    (0..EXPECTED).map(|number| trial.line_wrong_at(number)).collect()
 }
 
 pub fn all() -> Vec<Trial> {

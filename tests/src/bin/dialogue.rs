@@ -203,8 +203,13 @@ fn dialogue() -> String {
     for model in 0..MODELS.len() as u8 {
         dialogue.drawn(model, 12);
     }
-    dialogue.text
+    dialogue.text + WRONG
 }
+
+/// Replies that are wrong on purpose: another figure, one cut short, one too long, none where one
+/// comes, one where none comes. A program that tells none of them compares nothing.
+const WRONG: &str =
+    "model 0\n> PV?\n< 0.0001\n> PV?\n< 0.000\n> PV?\n< 0.00000\n> PV?\n<\n> GRST\n< OK\n";
 
 /// The text written so far, and the supply that has heard it.
 struct Dialogue {
