@@ -12,11 +12,7 @@ use borrow.Author.Tests.{le-leb, lt-leb, eq-eqb, ne-eqb, ltb-true, ltb-false, le
 use Rattle.base.specs.Choice.{pick}
 use Rattle.base.proofs.Choice.{and-both}
 use Rattle.figures.specs.Number.{numberIs, noNumber}
-use Rattle.hex.specs.Hex.{isHex, hexOf, readHex, hexDigit, hexPair, total, checksum}
-
-pub length-hex : (b : ℕ) → length (hexPair b) ≡ 2
-unfolding hexPair
-length-hex b = refl
+use Rattle.hex.specs.Hex.{isHex, hexOf, readHex, hexDigit, hexPair, total}
 
 -- a digit is read as what it stands for
 digit-trip : (n : ℕ) → n < 16 → (isHex (hexDigit n) ≡ true) × (hexOf (hexDigit n) ≡ n)
@@ -98,8 +94,3 @@ total-step s i h = rw (drop-cons s i 0 h, add-one) refl
 pub total-end : (s : List ℕ) (i : ℕ) → length s ≤ i → total (drop i s) ≡ 0
 unfolding total
 total-end s i h = rw (drop-of-length-le s h) refl
-
--- a sum is a byte
-pub checksum-lt : (s : List ℕ) → checksum s < 256
-unfolding checksum
-checksum-lt s = omega arith

@@ -7,9 +7,9 @@ use native.Mathlib.Omega.{arith}
 use lib.Dec.{eqb}
 use lib.ListN.{length, getD}
 use Rattle.base.proofs.Lists.{length-tabulate}
-use Rattle.wire.specs.Wire.{Delivery, modelAt, fitted, Sent, followed, Call, Item, Parsed, refuse, accept, parse, scan}
+use Rattle.wire.specs.Wire.{Delivery, fitted, Sent, followed, Call, Item, Parsed, refuse, accept, parse, scan}
 use Rattle.wire.specs.Share.{items, stream}
-use Rattle.wire.specs.Rack.{Plain, Rack, next, stateAt, deliver, moved, answerOf, callOf, after, runFrom, freshRack, run}
+use Rattle.wire.specs.Rack.{Plain, Rack, next, stateAt, deliver, moved, answerOf, callOf, after, runFrom}
 use Rattle.wire.specs.declared.Setup.{Setup}
 use Rattle.wire.proofs.Stream.{scan-append}
 
@@ -57,6 +57,3 @@ module _ (M : Plain) where
   -- and so does the number of slots
   pub run-size : (r : Rack State) (calls : List Call) → length (runFrom M r calls .slots) ≡ length (r .slots)
   run-size r calls = ap (λ (q : Rack State). length (q .slots)) (run-moved r calls) ∙ deliver-size (r .setup) (r .slots) (scan grammar (r .setup) (r .wire) (stream grammar (r .setup) calls) .sent)
-
-  pub run-fresh-size : (u : Setup) (calls : List Call) → length (run M u calls .slots) ≡ length (u .models)
-  run-fresh-size u calls = run-size (freshRack M u) calls ∙ length-tabulate (length (u .models)) (λ a. fresh (modelAt u a))

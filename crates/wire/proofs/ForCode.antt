@@ -10,10 +10,10 @@ use borrow.Author.Tests.{eqb-true, eqb-false}
 use Rattle.base.specs.Choice.{pick}
 use Rattle.base.specs.Lists.{eachTo}
 use Rattle.base.proofs.Lists.{getD-any, length-tabulate, getD-tabulate, tabulate-same, eachTo-all}
-use Rattle.wire.specs.Wire.{Entry, Delivery, one, all, say, Item, event, Grammar, modelAt, fitted, Wire, Sent, followed, byteOn, itemOn, scan}
+use Rattle.wire.specs.Wire.{Entry, Delivery, one, all, say, Item, Grammar, modelAt, fitted, Wire, followed, itemOn, scan}
 use Rattle.wire.specs.Rack.{Plain, Rack, next, stateAt, deliver, replies, moved}
 use Rattle.wire.specs.declared.Setup.{Setup}
-use Rattle.wire.proofs.Stream.{on-char, scan-append}
+use Rattle.wire.proofs.Stream.{scan-append}
 use Rattle.wire.proofs.Calls.{moved-twice}
 
 -- the model of an address, read from the array, whatever an array's element past its end stands for; and past its end
@@ -24,14 +24,6 @@ pub model-past : (u : Setup) (a : ℕ) → length (u .models) ≤ a → modelAt 
 model-past u a h = List·getD-eq-default (u .models) 255 h
 
 module _ (γ : Grammar) (u : Setup) where
-  -- a byte that ends no line hands out nothing
-  pub byte-quiet : (w : Wire) (b : ℕ) → eqb b 13 ≡ false → byteOn γ u w b .sent ≡ []
-  byte-quiet w b r = ap (λ (s : Sent). s .sent) (on-char γ u (w .sel) (record { kept = w .kept; spoiled = w .spoiled }) b r)
-
-  -- a field of another tag leaves the line as it is
-  pub scan-event : (w : Wire) (a : ℕ) (e : Entry) → scan γ u w (event a e ∷ []) ≡ record { wire = w; sent = one a e ∷ [] }
-  scan-event w a e = refl
-
   -- one item more of a stream
   pub scan-more : (w : Wire) (is : List Item) (i : Item) → scan γ u w (is ++ i ∷ []) ≡ followed (scan γ u w is) (itemOn γ u (scan γ u w is .wire) i)
   scan-more w is i = rw (scan-append γ u w is (i ∷ []), append-nil)
@@ -55,10 +47,6 @@ module _ (M : Plain) (u : Setup) where
   pub deliver-all : (ss : List State) (e : Entry) (n : ℕ) → length ss ≤ n → eachTo (λ a s. pick (fitted u a) (step (modelAt u a) s e) s) n ss ≡ deliver M u ss (all e)
   deliver-all ss e n h = eachTo-all (λ a s. pick (fitted u a) (step (modelAt u a) s e) s) n ss (fresh 255) h
 
-  -- a loop that fills place a with what the delivery makes of the old slots
-  pub deliver-filled : (ss : List State) (d : Delivery) (n : ℕ) → length ss ≤ n → eachTo (λ a s. next M u (stateAt M ss) d a) n ss ≡ deliver M u ss d
-  deliver-filled ss d n h = eachTo-all (λ a s. next M u (stateAt M ss) d a) n ss (fresh 255) h
-
   -- a reply of the line's own moves nothing
   pub deliver-say : (ss : List State) (t : List ℕ) → deliver M u ss (say t) ≡ ss
   deliver-say ss t = tabulate-same (fresh 255) ss
@@ -79,10 +67,3 @@ module _ (M : Plain) (r : Rack (M .State)) (is : List Item) (i : Item) where
   moved-more =
       ap (moved M r) (scan-more grammar (r .setup) (r .wire) is i)
       ∙ moved-twice M r (scan grammar (r .setup) (r .wire) is) (itemOn grammar (r .setup) (before .wire) i)
-
-  pub replies-more :
-      replies M (r .setup) (r .slots) (scan grammar (r .setup) (r .wire) (is ++ i ∷ []) .sent)
-      ≡ replies M (r .setup) (r .slots) (scan grammar (r .setup) (r .wire) is .sent) ++ replies M (r .setup) (before .slots) (itemOn grammar (r .setup) (before .wire) i .sent)
-  replies-more =
-      rw (scan-more grammar (r .setup) (r .wire) is i)
-      (replies-append M (r .setup) (r .slots) (scan grammar (r .setup) (r .wire) is .sent) (itemOn grammar (r .setup) (before .wire) i .sent))

@@ -3,25 +3,17 @@ use mathlib.Core.Path.{_≡_, refl}
 use mathlib.Core.Logic.{_⊎_, inl, inr}
 use mathlib.Core.Bool.{Bool, true, false}
 use mathlib.Core.List.{List, [], _∷_}
-use Prim.Native.Nat.{ℕ, _≤_}
+use Prim.Native.Nat.{ℕ}
 use native.Mathlib.Omega.{arith}
 use lib.Dec.{eqb, ltb}
-use lib.ListN.{length, length-append, length-take, List·getD-eq-default}
-use borrow.Author.Tests.{ltb-true, lt-ltb}
+use lib.ListN.{length, length-append, length-take}
+use borrow.Author.Tests.{ltb-true}
 use Rattle.base.specs.Choice.{pick}
 use Rattle.wire.specs.Wire.{Class, select, faulty, global, other, Grammar, fitted, Wire, Sent, Call, Item, byte, event, nobody, freshWire, byClass, byteOn, itemOn, scan, LawfulWire}
 use Rattle.wire.specs.Share.{stream}
 use Rattle.wire.specs.Rack.{Plain, Rack, runFrom, freshRack, run}
 use Rattle.wire.specs.declared.Setup.{Setup}
-use Rattle.wire.proofs.Calls.{fitted-below, run-moved}
-
--- where no address above 30 is fitted, a slot is selected when the selection is below 31
-pub selects-below : (u : Setup) (w : Wire) → length (u .models) ≤ 31 → LawfulWire u w → fitted u (w .sel) ≡ ltb (w .sel) 31
-selects-below u w l h = go (h .chosen)
-  where
-    go : (w .sel ≡ nobody) ⊎ (fitted u (w .sel) ≡ true) → fitted u (w .sel) ≡ ltb (w .sel) 31
-    go (inl e) = rw (e, List·getD-eq-default (u .models) 255 {n = 31} l)
-    go (inr f) = rw (f, lt-ltb (w .sel) 31 (omega (arith, fitted-below u (w .sel) f)))
+use Rattle.wire.proofs.Calls.{run-moved}
 
 -- a choice has what each of its branches has
 pick-has : {A : Type 0} (P : A → Type 0) (t : Bool) {x y : A} → (t ≡ true → P x) → (t ≡ false → P y) → P (pick t x y)

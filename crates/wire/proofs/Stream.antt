@@ -9,7 +9,7 @@ use borrow.Author.Tests.{eqb-true}
 use Rattle.base.specs.Choice.{pick}
 use Rattle.wire.specs.Machine.{given, keep, flat}
 use Rattle.wire.specs.Wire.{Entry, line, Delivery, one, all, say, Class, select, faulty, global, other, Grammar, fitted, Wire, Sent, quiet, followed, Item, byte, event, Call, nobody, freshWire, parse, byClass, byteOn, itemOn, scan}
-use Rattle.wire.specs.Share.{items, stream, Typed, typing, typed, pieces, selected, handed, routes, brought, forSlot, shareOf, jointShare}
+use Rattle.wire.specs.Share.{items, stream, Typed, typing, typed, pieces, selected, handed, routes, brought, forSlot, shareOf}
 use Rattle.wire.specs.declared.Setup.{Setup}
 use Rattle.wire.proofs.Machine.{keep-append, flat-append}
 
@@ -109,7 +109,3 @@ module _ (γ : Grammar) (u : Setup) (past rest : List Call) where
   -- the share of a list's beginning is a beginning of its share
   pub share-grows : (a : ℕ) → (more : List Entry) × (shareOf γ u (past ++ rest) a ≡ shareOf γ u past a ++ more)
   share-grows a = (flat (forSlot u a) later, rw brought-grows (flat-append (forSlot u a) (brought γ u past) later))
-
-  -- and so with a joint share
-  pub joint-grows : (touches : Delivery → Bool) → (more : List Delivery) × (jointShare γ u (past ++ rest) touches ≡ jointShare γ u past touches ++ more)
-  joint-grows touches = (keep touches later, rw brought-grows (keep-append touches (brought γ u past) later))
