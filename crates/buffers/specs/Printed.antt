@@ -1,7 +1,7 @@
--- How the program prints a reply: LF (10) for its CR (13).
+-- How a byte of a reply is printed where its lines end by another byte than CR (13).
 use Prim.Native.Nat.{ℕ}
 use lib.Dec.{eqb}
 use Rattle.base.specs.Choice.{pick}
 
-unfoldable pub printed : ℕ → ℕ
-printed b = pick (eqb b 13) 10 b
+unfoldable pub printed : ℕ → ℕ → ℕ
+printed ending b = pick (eqb b 13) ending b

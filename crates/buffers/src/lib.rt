@@ -4,20 +4,25 @@ ghost use Rattle.base.specs.Lists.{eachTo};
 ghost use Rattle.buffers.specs.Printed.{printed};
 ghost use Rattle.buffers.specs.Kept.{Kept};
 
-fn printed_byte(b: u8) -> u8
-    ensures { λ r. ⌜ r ≡ printed b ⌝ }
+const CR: u8 = 13;
+
+fn printed_byte(ending: u8, b: u8) -> u8
+    ensures { λ r. ⌜ r ≡ printed ending b ⌝ }
 {
-    if b == 13 { 10 } else { b }
+    if b == CR { ending } else { b }
 }
 
-// The first n bytes with LF for each CR.
-pub fn end_lines(out: &mut [u8], n: usize)
-    ensures { λ _. ⌜ now (out .exit) ≡ eachTo (λ i b. printed b) n (now (out .entry)) ⌝ }
+// The first n bytes with another byte for each CR.
+pub fn end_lines(out: &mut [u8], n: usize, ending: u8)
+    ensures { λ _. ⌜ now (out .exit) ≡ eachTo (λ i b. printed ending b) n (now (out .entry)) ⌝ }
 {
+    if ending == CR {
+        return;
+    }
     let end = base::least(n, out.len());
     let mut i = 0;
     while i < end {
-        out[i] = printed_byte(out[i]);
+        out[i] = printed_byte(ending, out[i]);
         i += 1;
     }
 }

@@ -1,12 +1,11 @@
 -- A call, outcome by outcome: what the engine does with one field is what the definition of a call says.
-use Prim.Native.Nat.{ℕ, _+_, _-_, _≤_, _<_}
+use Prim.Native.Nat.{ℕ, _+_, _≤_, _<_}
 use mathlib.Core.Path.{_≡_, refl, ap, _∙_}
 use mathlib.Core.List.{List}
 use native.Mathlib.Omega.{arith}
-use native.Mathlib.Nat.{zero-add}
-use lib.ListN.{length, length-take}
+use lib.ListN.{length}
 use borrow.Author.Tests.{lt-ltb, le-ltb}
-use Rattle.base.proofs.Put.{put-whole}
+use Rattle.buffers.proofs.Printed.{map-cr}
 use Rattle.wire.specs.Wire.{Parsed, refuse, accept, fitted, parse}
 use Rattle.wire.specs.Rack.{done, callOf}
 use Rattle.wire.specs.Rack as wire
@@ -31,24 +30,23 @@ module _ (r : Rack) (bytes b : List ℕ) where
     answer = record { code = w .code; rack = w .rack; used = w .used; length = w .next }
 
     -- all of the replies stand in the buffer, at its start
-    taken : (q : wire.Rack Supply) (n : ℕ) (t : List ℕ) → callOf plainSupply (viewOf r) (fieldAt bytes) ≡ done q n t → WorkDoes r bytes b 0 0 w b′ → Accepted q n t b answer b′
+    taken : (q : wire.Rack Supply) (n : ℕ) (t : List ℕ) → callOf plainSupply (viewOf r) (fieldAt bytes) ≡ done q n t → WorkDoes r bytes b 0 13 w b′ → Accepted q n t b answer b′
     taken q n t e d =
         let same : ran (viewOf (w .rack)) (w .used) (d .said) (w .code) ≡ ran q n t 0 = d .is ∙ one-field (viewOf r) q bytes n t e in
         let says : d .said ≡ t = ap (λ (x : Ran). x .said) same in
-        let whole = put-whole (d .put) (omega (arith, d .whole, d .put .next-is, length-take (length b - 0) (d .said))) in
         record {
           code-is = ap (λ (x : Ran). x .code) same;
           used-is = ap (λ (x : Ran). x .used) same;
           small = d .small;
           rack-is = ap (λ (x : Ran). x .rack) same;
-          length-is = d .whole ∙ rw (says, zero-add) refl;
-          buffer-is = rw (says, zero-add) at (whole .1);
+          length-is = d .next-is ∙ ap length says;
+          buffer-is = d .buffer-is ∙ rw (map-cr (d .said), says) refl;
         }
 
-    pub long-buffer : 512 ≤ length b → RefusedFirst r bytes b 0 w b′ → (Able r → 0 ≤ 0 → 0 + leastReply ≤ length b → WorkDoes r bytes b 0 0 w b′) → CallDoes r bytes b answer b′
+    pub long-buffer : 512 ≤ length b → RefusedFirst r bytes b w b′ → (Able r → 0 + leastReply ≤ length b → WorkDoes r bytes b 0 13 w b′) → CallDoes r bytes b answer b′
     unfolding callOf parse
     long-buffer h f g = rw (le-ltb (length b) 512 h) (byParsed (readField (fitted (r .setup)) bytes) refl)
       where
         byParsed : (p : Parsed) → readField (fitted (r .setup)) bytes ≡ p → Answered r b (wire.answerOf plainSupply (viewOf r) p) answer b′
         byParsed (refuse n) e = (ap (λ (x : Worked). record { code = x .code; rack = x .rack; used = x .used; length = x .next }) (f n e .0), f n e .1)
-        byParsed (accept n is) e = λ small. taken _ n _ (ap (wire.answerOf plainSupply (viewOf r)) e) (g small (omega arith) (omega arith))
+        byParsed (accept n is) e = λ small. taken _ n _ (ap (wire.answerOf plainSupply (viewOf r)) e) (g small (omega arith))

@@ -1,5 +1,5 @@
 -- WHAT A CALL DOES: the whole answer, the rack and every byte of the reply buffer, for any rack, bytes and buffer.
-use Prim.Native.Nat.{ℕ, _≤_}
+use Prim.Native.Nat.{ℕ}
 use mathlib.Core.Path.{_≡_}
 use mathlib.Core.List.{List, _++_}
 use lib.ListN.{length, drop}
@@ -10,7 +10,7 @@ use Rattle.supply.specs.declared.Supply.{Supply}
 use Rattle.plain.specs.Plain.{plainSupply}
 use Rattle.slots.specs.declared.Rack.{Rack}
 use Rattle.calls.specs.declared.Answer.{Answer}
-use Rattle.slots.specs.View.{viewOf}
+use Rattle.slots.specs.View.{viewOf, Able}
 
 -- a refusal: its number, the very same rack, nothing used, no reply
 abbrev pub refusal : Rack → ℕ → Answer
@@ -20,7 +20,7 @@ refusal r n = record { code = n; rack = r; used = 0; length = 0 }
 pub record Accepted (q : wire.Rack Supply) (used : ℕ) (t b : List ℕ) (a : Answer) (b′ : List ℕ) : Type 0 where
   pub code-is : a .code ≡ 0
   pub used-is : a .used ≡ used
-  pub small : a .rack .line .count ≤ 64
+  pub small : Able (a .rack)
   pub rack-is : viewOf (a .rack) ≡ q
   pub length-is : a .length ≡ length t
   pub buffer-is : b′ ≡ t ++ drop (length t) b
@@ -29,7 +29,7 @@ pub record Accepted (q : wire.Rack Supply) (used : ℕ) (t b : List ℕ) (a : An
 -- that a fitting list and calls lead to
 abbrev pub Answered : Rack → List ℕ → wire.Answer Supply → Answer → List ℕ → Type 0
 Answered r b (wire.refused n) a b′ = (a ≡ refusal r n) × (b′ ≡ b)
-Answered r b (wire.done q used t) a b′ = r .line .count ≤ 64 → Accepted q used t b a b′
+Answered r b (wire.done q used t) a b′ = Able r → Accepted q used t b a b′
 
 abbrev pub callAs : List ℕ → List ℕ → Call
 callAs bytes b = record { bytes = bytes; room = length b }

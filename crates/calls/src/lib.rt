@@ -2,6 +2,9 @@
 ghost use Rattle.calls.specs.Calls.{CallDoes};
 use slots::Rack;
 
+// The byte that ends each line of a reply.
+const CR: u8 = 13;
+
 // What a call answers: code 0, the rack after the field, the bytes used and the length of the reply; or the number of a refusal and the same rack.
 pub struct Answer {
     pub code: u8,
@@ -22,7 +25,7 @@ pub fn call(r: Rack, bytes: &[u8], reply: &mut [u8]) -> Answer
             length: 0,
         };
     }
-    let worked = engine::work(r, bytes, reply, 0, 0);
+    let worked = engine::work(r, bytes, reply, 0, CR);
     let rack = worked.rack;
     let code = worked.code;
     let used = worked.used;

@@ -1,85 +1,81 @@
 // The program: standard input brings a fitting list and then fields; what they draw goes to standard output, its lines ended
 // by LF. A field is answered as soon as its last byte is there. A refusal is printed and ends the program.
 ghost use mathlib.Core.Path.{_≡_};
-ghost use Prim.Native.Nat.{_<_};
 ghost use lib.ListN.{length};
 ghost use Rattle.slots.specs.View.{Able};
-ghost use Rattle.controller.specs.Input.{InputDoes, unworked, Refilled};
-use libc::STDIN_FILENO;
+ghost use Rattle.controller.specs.Turn.{TurnDoes};
 use slots::Rack;
-
-// Replies wait for each other up to this index of their buffer of 65,536 bytes; behind it there is room for those of any field.
-const FULL: usize = 61_440;
 
 // The bytes of a fitting list.
 const LIST: usize = 31;
 
-// More reads than any run makes.
-const READS: u64 = u64::MAX;
+// Replies wait for each other up to this index of their buffer of 8,192 bytes; behind it there is room for those of any field.
+const FULL: usize = 7_680;
 
-// The bytes that are there stand before the index `end` of their room, and those before the index `from` are worked; whether the last
-// read brought any, and how many reads may still be made.
-struct Block {
-    from: usize,
-    end: usize,
-    brought: bool,
-    reads: u64,
+// The byte that ends each line written.
+const LF: u8 = 10;
+
+// A turn: the rack after it, the bytes that its fields had, how many bytes are to be written, the number of the refusal that ended it, or
+// 0 where the buffer was full, and whether to read on, as bytes to come may mend the refusal.
+struct Turned {
+    rack: Rack,
+    used: usize,
+    length: usize,
+    code: u8,
+    reads_on: bool,
 }
 
-// Where fields were worked up to a refusal: keeps the bytes that are left, and reads behind them.
-fn refill(room: &mut [u8], b: Block, code: u8) -> Block
-    requires { ⌜ ((code ≡ 0 → ⊥) → (length (unworked (now room) b) < length (now room)) × (0 < b .reads)) ⌝ }
-    ensures { λ n. ⌜ (code ≡ 0 → (n ≡ b) × (now (room .exit) ≡ now (room .entry))) × ((code ≡ 0 → ⊥) → Refilled (unworked (now (room .entry)) b) (now (room .exit)) b n) ⌝ }
+// Works the bytes that are there, up to a refusal or a full buffer. What is to be written stands at the start of the buffer.
+fn turn(r: Rack, s: &[u8], out: &mut [u8]) -> Turned
+    requires { ⌜ Able r × (length (now out) ≡ 8192) ⌝ }
+    ensures { λ t. ⌜ TurnDoes r (now (s .entry)) (now (out .entry)) t (now (out .exit)) ⌝ }
 {
-    if code == 0 {
-        return b;
-    }
-    let kept = buffers::keep_rest(room, b.from, b.end);
-    let end = console::take_block(room, kept);
-    Block {
-        from: 0,
-        end,
-        brought: kept < end,
-        reads: b.reads - 1,
+    let w = engine::work(r, s, out, FULL, LF);
+    let rack = w.rack;
+    let code = w.code;
+    Turned {
+        rack,
+        used: w.used,
+        length: w.next,
+        code,
+        reads_on: console::waits(code),
     }
 }
 
-// Works the input to its end, or to the first refusal, and tells its number, or 0. The replies of each turn are written.
+// Works the input turn by turn, and writes what each draws, to the input's end, the first refusal or a fault; tells the number of the
+// refusal, or 0.
 fn take_input(r: Rack, room: &mut [u8], out: &mut [u8]) -> u8
-    requires { ⌜ Able r × (length (now out) ≡ 65536) × (length (now room) ≡ 65536) ⌝ }
-    ensures { λ n. ⌜ InputDoes r n ⌝ }
+    requires { ⌜ Able r × (length (now out) ≡ 8192) × (length (now room) ≡ 8192) ⌝ }
 {
     let mut rack = r;
-    let mut block = Block {
-        from: 0,
-        end: 0,
-        brought: true,
-        reads: READS,
-    };
+    let mut block = stream::no_block();
     let mut code = 2;
+    let mut sent = true;
     let mut more = true;
     while more {
-        block = refill(room, block, code);
+        block = stream::refill(room, block, code);
         let there = base::part_to(room, block.end);
-        let w = engine::work(rack, base::part_from(there, block.from), out, 0, FULL);
-        rack = w.rack;
-        code = w.code;
-        console::write_out(out, w.next);
-        block.from += w.used;
-        let waits = block.brought & console::waits(code);
-        more = (code == 0) | (waits & (0 < block.reads));
+        let t = turn(rack, base::part_from(there, block.from), out);
+        rack = t.rack;
+        code = t.code;
+        sent = console::write_out(base::part_to(out, t.length));
+        block.from += t.used;
+        more = stream::goes_on(sent, code, t.reads_on, block);
     }
-    if block.from == block.end { 0 } else { code }
+    stream::told_at_end(sent, code, block)
 }
 
 fn main() {
     let mut list = [0u8; LIST];
-    let n = io::read_full(STDIN_FILENO, &mut list);
-    let fitted = rack::fit(&list[..n]);
+    let got = console::read_full(&mut list);
+    if got.failed {
+        return;
+    }
+    let fitted = rack::fit(base::part_to(&list, got.count));
     let mut code = fitted.code;
     if code == 0 {
-        let mut room = io::large_buffer();
-        let mut out = io::large_buffer();
+        let mut room = console::buffer();
+        let mut out = console::buffer();
         code = take_input(fitted.rack, &mut room, &mut out);
     }
     if code != 0 {

@@ -7,8 +7,7 @@ use mathlib.Core.List.{List, [], _++_, append-nil}
 use lib.Dec.{eqb}
 use lib.ListN.{length, drop}
 use lib.Seq.{drop-drop, drop-append-le}
-use borrow.Author.Tests.{eqb-true, eqb-false}
-use Rattle.base.proofs.Choice.{or-false}
+use borrow.Author.Tests.{eqb-true}
 use Rattle.wire.specs.Wire.{Call, Parsed, refuse, accept, fitted, parse}
 use Rattle.wire.specs.Rack.{refused, callOf}
 use Rattle.wire.specs.Rack as wire
@@ -60,9 +59,6 @@ so-far v k s b q kept said n (read k₀ s₀ b₀ q₀ kept₀ said₀ n₀ r wa
       kept-is = ap (drop used) (rest ∙ sym cut) ∙ drop-drop used (f .used) (s₀ ++ c);
     }
 
-pub so-far-refused : (v : wire.Rack Supply) (s : List ℕ) (q : wire.Rack Supply) (kept said : List ℕ) (n : ℕ) → SoFar v s q kept said n → callOf plainSupply q (fieldAt kept) ≡ refused n
-so-far-refused v s q kept said n f = rw (f .kept-is) (all-ended s [] v q (f .used) said n (f .is))
-
 -- THE WHOLE INPUT: bytes that are not read do not count where the refusal is final
 pub whole : (v : wire.Rack Supply) (input : List ℕ) (q : wire.Rack Supply) (said : List ℕ) (n : ℕ) → Ends v input q said n → Whole v input q said n
 whole v input q said n d =
@@ -95,6 +91,3 @@ waits-is n t = byTest (eqb n 2) refl t
     byTest : (b : Bool) → eqb n 2 ≡ b → (b || eqb n 5) ≡ true → Waits n
     byTest true e u = inl (eqb-true n 2 e)
     byTest false e u = inr (eqb-true n 5 u)
-
-pub final-is : (n : ℕ) → (eqb n 2 || eqb n 5) ≡ false → Final n
-final-is n f = let both = or-false (eqb n 2) (eqb n 5) f in (eqb-false n 2 (both .0), eqb-false n 5 (both .1))

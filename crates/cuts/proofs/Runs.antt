@@ -93,6 +93,6 @@ turn-run u calls r g stop s q used said n e =
     let run = fields-run u stop s (suc (length s)) calls (viewOf r) 0 [] (r, g, refl) in
     (run .0, run .1, run .2 ∙ ap (λ (R : Ran). R .rack) (sym e))
 
-pub work-run : (u : Setup) (calls : List Call) (r : Rack) → Run u calls r → (s b : List ℕ) (at full : ℕ) (w : Worked) (b′ : List ℕ) → WorkDoes r s b at full w b′
-    → Reached u (calls ++ callsOn (fullAt at full) (viewOf r) s) (viewOf (w .rack))
-work-run u calls r g s b at full w b′ d = turn-run u calls r g (fullAt at full) s (viewOf (w .rack)) (w .used) (d .said) (w .code) (d .is)
+pub work-run : (u : Setup) (calls : List Call) (r : Rack) → Run u calls r → (s b : List ℕ) (full ending : ℕ) (w : Worked) (b′ : List ℕ) → WorkDoes r s b full ending w b′
+    → Reached u (calls ++ callsOn (fullAt full) (viewOf r) s) (viewOf (w .rack))
+work-run u calls r g s b full ending w b′ d = turn-run u calls r g (fullAt full) s (viewOf (w .rack)) (w .used) (d .said) (w .code) (d .is)

@@ -20,9 +20,9 @@ use Rattle.plain.specs.Plain.{plainSupply}
 use Rattle.engine.specs.Engine.{fieldAt, Ran, ran, afterField, fieldsFrom, fieldsOn, never, fullAt}
 
 -- a buffer that is full from the start stops behind the first field
-pub one-field : (v q : wire.Rack Supply) (s : List ℕ) (n : ℕ) (t : List ℕ) → callOf plainSupply v (fieldAt s) ≡ done q n t → fieldsOn (fullAt 0 0) v s ≡ ran q n t 0
+pub one-field : (v q : wire.Rack Supply) (s : List ℕ) (n : ℕ) (t : List ℕ) → callOf plainSupply v (fieldAt s) ≡ done q n t → fieldsOn (fullAt 0) v s ≡ ran q n t 0
 one-field v q s n t e =
-    ap (afterField (fieldsFrom (length s) (fullAt 0 0) s) (fullAt 0 0) v 0 []) e ∙ rw (le-ltb (0 + length t) 0 (omega arith), zero-add n) refl
+    ap (afterField (fieldsFrom (length s) (fullAt 0) s) (fullAt 0) v 0 []) e ∙ rw (le-ltb (length t) 0 (omega arith), zero-add n) refl
 
 -- what an answer holds
 abbrev pub usedBy : wire.Answer Supply → ℕ

@@ -5,16 +5,18 @@ use mathlib.Core.Logic.{inl, inr}
 use mathlib.Core.Bool.{Bool, true, false, true≢false, _&&_, _||_, not}
 use mathlib.Core.List.{List, [], _++_, map}
 use native.Mathlib.Omega.{arith}
-use native.Mathlib.Nat.{add-zero}
+use native.Mathlib.Nat.{add-zero, zero-add}
 use lib.Dec.{ltb, eqb}
 use lib.Seq.{drop-drop}
-use lib.ListN.{length, getD, set, take, drop, length-append, length-drop, length-set}
+use lib.ListN.{length, getD, set, take, drop, length-append, length-drop, length-set, length-take}
 use borrow.Author.Tests.{ltb-true, ltb-false, eqb-true, ne-eqb}
 use Rattle.base.specs.Choice.{pick, bit}
+use Rattle.base.specs.Lists.{eachTo}
 use Rattle.base.specs.Put.{Put}
 use Rattle.base.proofs.Choice.{and-both}
 use Rattle.base.proofs.Lists.{getD-any, set-same}
 use Rattle.base.proofs.Put.{put-none, put-then, put-whole, put-length}
+use Rattle.buffers.proofs.Printed.{each-first}
 use Rattle.wire.specs.declared.Setup.{Setup}
 use Rattle.wire.specs.Wire.{Item, byte, Parsed, refuse, accept, fitted}
 use Rattle.wire.specs.Rack as wire
@@ -53,42 +55,42 @@ module _ (u : Setup) (l : Line) (x : Supply) (a : ℕ) (s : List ℕ) (left : �
   piece-spends t (inr d) e = d .some
 
 -- the replies so far are those of fields in turn, whose end is R; `since` are the slots that the field found which was begun; and there is room for those of the field that was begun
-pub record Stands (R : Ran) (s b : List ℕ) (at full : ℕ) (u : Setup) (ss : List Supply) (l : Line) (used next left code : ℕ) (going : Bool) (b′ : List ℕ) : Type 0 where
+pub record Stands (R : Ran) (s b : List ℕ) (full : ℕ) (u : Setup) (ss : List Supply) (l : Line) (used next left code : ℕ) (going : Bool) (b′ : List ℕ) : Type 0 where
   pub said : List ℕ
   pub fuel : ℕ
   pub since : List Supply
   pub small : Short l
-  pub put : Put b at said next b′
-  pub whole : next ≡ at + length said
+  pub put : Put b 0 said next b′
+  pub whole : next ≡ length said
   pub low : going ≡ true → left ≡ 0 → next ≤ full
   pub room : going ≡ true → 0 < left → next + due (wireOf l) + rate * left ≤ full + ahead
   pub enough : going ≡ true → length s + bit (ltb 0 left) ≤ used + left + fuel
-  pub goes : going ≡ true → onward fuel (fullAt at full) s since (viewOf (rackIs ss l u)) used left said ≡ R
+  pub goes : going ≡ true → onward fuel (fullAt full) s since (viewOf (rackIs ss l u)) used left said ≡ R
   pub ended : going ≡ false → ran (viewOf (rackIs ss l u)) used said code ≡ R
 
-pub stands-start : (s b : List ℕ) (at full : ℕ) (u : Setup) (ss : List Supply) (l : Line) → Short l → at ≤ full → Stands (fieldsOn (fullAt at full) (viewOf (rackIs ss l u)) s) s b at full u ss l 0 at 0 0 true b
-stands-start s b at full u ss l h low =
+pub stands-start : (s b : List ℕ) (full : ℕ) (u : Setup) (ss : List Supply) (l : Line) → Short l → Stands (fieldsOn (fullAt full) (viewOf (rackIs ss l u)) s) s b full u ss l 0 0 0 0 true b
+stands-start s b full u ss l h =
     record {
       said = [];
       fuel = length s;
       since = ss;
       small = h;
-      put = put-none b at;
+      put = put-none b 0;
       whole = omega arith;
-      low = λ g e. low;
+      low = λ g e. omega arith;
       room = λ g e. absurd (omega (arith, e));
       enough = λ g. omega arith;
-      goes = λ g. sym (onward-new (length s) (fullAt at full) s (viewOf (rackIs ss l u)) 0 []);
+      goes = λ g. sym (onward-new (length s) (fullAt full) s (viewOf (rackIs ss l u)) 0 []);
       ended = λ g. absurd (true≢false g);
     }
 
-module _ (R : Ran) (s b : List ℕ) (at full : ℕ) (u : Setup) (ss : List Supply) (l : Line) (used next left code : ℕ) (b₁ : List ℕ)
-    (f : Stands R s b at full u ss l used next left code true b₁) (long : full + leastReply ≤ length b) (inside : used + left ≤ length s)
+module _ (R : Ran) (s b : List ℕ) (full : ℕ) (u : Setup) (ss : List Supply) (l : Line) (used next left code : ℕ) (b₁ : List ℕ)
+    (f : Stands R s b full u ss l used next left code true b₁) (long : full + leastReply ≤ length b) (inside : used + left ≤ length s)
     (x : Supply) (k : ℕ) (there : x ≡ getD ss k (fresh 255)) (p : After) (b₂ : List ℕ) where
   abbrev v : wire.Rack Supply
   v = viewOf (rackIs ss l u)
 
-  after-refusal : PieceRefused u l x (drop used s) left p b₁ next b₂ → Stands R s b at full u (slotsAfter u p ss k) (p .line) (used + p .used) (p .next) (p .left) (p .code) (goesOn full (p .code) (p .left) (p .next)) b₂
+  after-refusal : PieceRefused u l x (drop used s) left p b₁ next b₂ → Stands R s b full u (slotsAfter u p ss k) (p .line) (used + p .used) (p .next) (p .left) (p .code) (goesOn full (p .code) (p .left) (p .next)) b₂
   after-refusal d =
       let stops : eqb (p .code) 0 ≡ false = ne-eqb (p .code) 0 (d .some) in
       let over : ran v used (f .said) (p .code) ≡ R = rw (d .reads) at (f .goes refl) in
@@ -141,7 +143,7 @@ module _ (R : Ran) (s b : List ℕ) (at full : ℕ) (u : Setup) (ss : List Suppl
     goes-by : p .next ≡ next + length t
     goes-by = put-whole (leaves .moves .said) (omega (arith, fits-in, long, put-length (f .put))) .0
 
-    whole′ : p .next ≡ at + length said′
+    whole′ : p .next ≡ length said′
     whole′ = omega (arith, goes-by, f .whole, length-append (f .said) t)
 
     within′ : used′ + p .left ≤ length s
@@ -159,7 +161,7 @@ module _ (R : Ran) (s b : List ℕ) (at full : ℕ) (u : Setup) (ss : List Suppl
             omega (arith, n, ltb-false 0 left e, d .some)
 
     abbrev stop : ℕ → Bool
-    stop = fullAt at full
+    stop = fullAt full
 
     abbrev rest : List Item
     rest = map byte (take (p .left) (drop (p .used) (drop used s)))
@@ -169,7 +171,7 @@ module _ (R : Ran) (s b : List ℕ) (at full : ℕ) (u : Setup) (ss : List Suppl
 
     stood : (g : Bool) (fuel : ℕ) (since : List Supply) → (g ≡ true → p .left ≡ 0 → p .next ≤ full) → (g ≡ true → length s + bit (ltb 0 (p .left)) ≤ used′ + p .left + fuel)
         → (g ≡ true → onward fuel stop s since q used′ (p .left) said′ ≡ R) → (g ≡ false → ran q used′ said′ (p .code) ≡ R)
-        → Stands R s b at full u (slotsAfter u p ss k) (p .line) used′ (p .next) (p .left) (p .code) g b₂
+        → Stands R s b full u (slotsAfter u p ss k) (p .line) used′ (p .next) (p .left) (p .code) g b₂
     stood g fuel since low enough goes ended =
         record {
           said = said′;
@@ -186,7 +188,7 @@ module _ (R : Ran) (s b : List ℕ) (at full : ℕ) (u : Setup) (ss : List Suppl
         }
 
     abbrev Next : Bool → Type 0
-    Next g = Stands R s b at full u (slotsAfter u p ss k) (p .line) used′ (p .next) (p .left) (p .code) g b₂
+    Next g = Stands R s b full u (slotsAfter u p ss k) (p .line) used′ (p .next) (p .left) (p .code) g b₂
 
     -- some of the field is left
     part-done : ltb 0 (p .left) ≡ true → Next true
@@ -230,35 +232,45 @@ module _ (R : Ran) (s b : List ℕ) (at full : ℕ) (u : Setup) (ss : List Suppl
 
   -- a piece more
   pub stands-next : (a : ℕ) → (fitted u a ≡ true → k ≡ a) → length ss ≤ 31 → length (l .kept) ≡ 64 → PieceDoes u l x a (drop used s) left p b₁ next b₂
-      → Stands R s b at full u (slotsAfter u p ss k) (p .line) (used + p .used) (p .next) (p .left) (p .code) (goesOn full (p .code) (p .left) (p .next)) b₂
+      → Stands R s b full u (slotsAfter u p ss k) (p .line) (used + p .used) (p .next) (p .left) (p .code) (goesOn full (p .code) (p .left) (p .next)) b₂
   stands-next a fits short wide (inl d) = after-refusal d
   stands-next a fits short wide (inr d) = after-taken a fits short wide d
 
 -- of any rack: where the first field is refused with n, the loop has changed nothing
-pub record Unmoved (ss₀ : List Supply) (l₀ : Line) (b : List ℕ) (at n : ℕ) (ss : List Supply) (l : Line) (used next left code : ℕ) (going : Bool) (b′ : List ℕ) : Type 0 where
+pub record Unmoved (ss₀ : List Supply) (l₀ : Line) (b : List ℕ) (n : ℕ) (ss : List Supply) (l : Line) (used next left code : ℕ) (going : Bool) (b′ : List ℕ) : Type 0 where
   pub slots-are : ss ≡ ss₀
   pub line-is : l ≡ l₀
   pub used-is : used ≡ 0
-  pub next-is : next ≡ at
+  pub next-is : next ≡ 0
   pub left-is : left ≡ 0
   pub buffer-is : b′ ≡ b
   pub code-is : going ≡ false → code ≡ n
 
-pub unmoved-start : (ss : List Supply) (l : Line) (b : List ℕ) (at n : ℕ) → Unmoved ss l b at n ss l 0 at 0 0 true b
-unmoved-start ss l b at n = record { slots-are = refl; line-is = refl; used-is = refl; next-is = refl; left-is = refl; buffer-is = refl; code-is = λ g. absurd (true≢false g) }
+pub unmoved-start : (ss : List Supply) (l : Line) (b : List ℕ) (n : ℕ) → Unmoved ss l b n ss l 0 0 0 0 true b
+unmoved-start ss l b n = record { slots-are = refl; line-is = refl; used-is = refl; next-is = refl; left-is = refl; buffer-is = refl; code-is = λ g. absurd (true≢false g) }
 
 -- the answer where the first field is refused, from what each part of it is
-pub refused-answer : (ss ss₀ : List Supply) (l l₀ : Line) (u u₀ : Setup) (used next code at n : ℕ) → ss ≡ ss₀ → l ≡ l₀ → u ≡ u₀ → used ≡ 0 → next ≡ at → code ≡ n
-    → _≡_ {A = Worked} (record { rack = rackIs ss l u; used = used; next = next; code = code }) (record { rack = rackIs ss₀ l₀ u₀; used = 0; next = at; code = n })
-refused-answer ss ss₀ l l₀ u u₀ used next code at n slots line setup none unsaid refused = rw (slots, line, setup, none, unsaid, refused) refl
+pub refused-answer : (ss ss₀ : List Supply) (l l₀ : Line) (u u₀ : Setup) (used next code n : ℕ) → ss ≡ ss₀ → l ≡ l₀ → u ≡ u₀ → used ≡ 0 → next ≡ 0 → code ≡ n
+    → _≡_ {A = Worked} (record { rack = rackIs ss l u; used = used; next = next; code = code }) (record { rack = rackIs ss₀ l₀ u₀; used = 0; next = 0; code = n })
+refused-answer ss ss₀ l l₀ u u₀ used next code n slots line setup none unsaid refused = rw (slots, line, setup, none, unsaid, refused) refl
+
+-- what was said stands at the start of the buffer, printed
+pub printed-said : (f : ℕ → ℕ) (b said b₁ : List ℕ) (next : ℕ) → Put b 0 said next b₁ → next ≡ length said → eachTo (λ i x. f x) next b₁ ≡ map f said ++ drop (length said) b
+printed-said f b said b₁ next put e =
+    let all : b₁ ≡ said ++ drop (length said) b = rw zero-add at (put-whole put (omega (arith, e, put .next-is, length-take (length b - 0) said)) .1) in
+    rw (e, all) (each-first f said (drop (length said) b))
+
+-- nothing was said, and the buffer stands as it was
+pub printed-none : (f : ℕ → ℕ) (b b₁ : List ℕ) (next : ℕ) → next ≡ 0 → b₁ ≡ b → eachTo (λ i x. f x) next b₁ ≡ b
+printed-none f b b₁ next e same = rw e same
 
 abbrev isTaken : Parsed → Bool
 isTaken (refuse n) = false
 isTaken (accept n is) = true
 
-module _ (u : Setup) (s : List ℕ) (n : ℕ) (e : readField (fitted u) s ≡ refuse n) (ss₀ : List Supply) (l₀ : Line) (b : List ℕ) (at full : ℕ) (ss : List Supply) (l : Line) (used next left code : ℕ) (b₁ : List ℕ)
-    (f : Unmoved ss₀ l₀ b at n ss l used next left code true b₁) (x : Supply) (k : ℕ) (there : x ≡ getD ss k (fresh 255)) (p : After) (b₂ : List ℕ) (a : ℕ) where
-  first-piece : PieceDoes u l x a s 0 p b₁ next b₂ → Unmoved ss₀ l₀ b at n (slotsAfter u p ss k) (p .line) (used + p .used) (p .next) (p .left) (p .code) (goesOn full (p .code) (p .left) (p .next)) b₂
+module _ (u : Setup) (s : List ℕ) (n : ℕ) (e : readField (fitted u) s ≡ refuse n) (ss₀ : List Supply) (l₀ : Line) (b : List ℕ) (full : ℕ) (ss : List Supply) (l : Line) (used next left code : ℕ) (b₁ : List ℕ)
+    (f : Unmoved ss₀ l₀ b n ss l used next left code true b₁) (x : Supply) (k : ℕ) (there : x ≡ getD ss k (fresh 255)) (p : After) (b₂ : List ℕ) (a : ℕ) where
+  first-piece : PieceDoes u l x a s 0 p b₁ next b₂ → Unmoved ss₀ l₀ b n (slotsAfter u p ss k) (p .line) (used + p .used) (p .next) (p .left) (p .code) (goesOn full (p .code) (p .left) (p .next)) b₂
   first-piece (inl d) =
       record {
         slots-are = rw (d .is) (set-same ss k x (fresh 255) there ∙ f .slots-are);
@@ -271,25 +283,25 @@ module _ (u : Setup) (s : List ℕ) (n : ℕ) (e : readField (fitted u) s ≡ re
       }
   first-piece (inr d) = absurd (true≢false (ap isTaken (sym (d .reads) ∙ e)))
 
-  pub unmoved-next : PieceDoes u l x a (drop used s) left p b₁ next b₂ → Unmoved ss₀ l₀ b at n (slotsAfter u p ss k) (p .line) (used + p .used) (p .next) (p .left) (p .code) (goesOn full (p .code) (p .left) (p .next)) b₂
+  pub unmoved-next : PieceDoes u l x a (drop used s) left p b₁ next b₂ → Unmoved ss₀ l₀ b n (slotsAfter u p ss k) (p .line) (used + p .used) (p .next) (p .left) (p .code) (goesOn full (p .code) (p .left) (p .next)) b₂
   unmoved-next d = first-piece (rw (f .used-is, f .left-is) at d)
 
 -- WHAT HOLDS AT EACH TURN of the loop
-pub record Inv (u : Setup) (s b : List ℕ) (at full : ℕ) (ss₀ : List Supply) (l₀ : Line) (ss : List Supply) (l : Line) (used next left code : ℕ) (going : Bool) (b′ : List ℕ) : Type 0 where
+pub record Inv (u : Setup) (s b : List ℕ) (full : ℕ) (ss₀ : List Supply) (l₀ : Line) (ss : List Supply) (l : Line) (used next left code : ℕ) (going : Bool) (b′ : List ℕ) : Type 0 where
   pub inside : used + left ≤ length s
   pub same : length b′ ≡ length b
   pub slots : length ss ≡ 31
   pub kept : length (l .kept) ≡ 64
   pub quiet : going ≡ true → code ≡ 0
-  pub unmoved : (n : ℕ) → readField (fitted u) s ≡ refuse n → Unmoved ss₀ l₀ b at n ss l used next left code going b′
-  pub stands : Short l₀ → at ≤ full → full + leastReply ≤ length b → Stands (fieldsOn (fullAt at full) (viewOf (rackIs ss₀ l₀ u)) s) s b at full u ss l used next left code going b′
+  pub unmoved : (n : ℕ) → readField (fitted u) s ≡ refuse n → Unmoved ss₀ l₀ b n ss l used next left code going b′
+  pub stands : Short l₀ → full + leastReply ≤ length b → Stands (fieldsOn (fullAt full) (viewOf (rackIs ss₀ l₀ u)) s) s b full u ss l used next left code going b′
 
-pub inv-start : (u : Setup) (s b : List ℕ) (at full : ℕ) (ss : List Supply) (l : Line) → length ss ≡ 31 → length (l .kept) ≡ 64 → Inv u s b at full ss l ss l 0 at 0 0 true b
-inv-start u s b at full ss l n w =
-    record { inside = omega arith; same = refl; slots = n; kept = w; quiet = λ g. refl; unmoved = λ j e. unmoved-start ss l b at j; stands = λ h low long. stands-start s b at full u ss l h low }
+pub inv-start : (u : Setup) (s b : List ℕ) (full : ℕ) (ss : List Supply) (l : Line) → length ss ≡ 31 → length (l .kept) ≡ 64 → Inv u s b full ss l ss l 0 0 0 0 true b
+inv-start u s b full ss l n w =
+    record { inside = omega arith; same = refl; slots = n; kept = w; quiet = λ g. refl; unmoved = λ j e. unmoved-start ss l b j; stands = λ h long. stands-start s b full u ss l h }
 
-module _ {u : Setup} {s b : List ℕ} {at full : ℕ} {ss₀ : List Supply} {l₀ : Line} {ss : List Supply} {l : Line} {used next left code : ℕ} {going : Bool} {b₁ : List ℕ}
-    (f : Inv u s b at full ss₀ l₀ ss l used next left code going b₁) {rest : List ℕ} (from : rest ≡ drop used s) where
+module _ {u : Setup} {s b : List ℕ} {full : ℕ} {ss₀ : List Supply} {l₀ : Line} {ss : List Supply} {l : Line} {used next left code : ℕ} {going : Bool} {b₁ : List ℕ}
+    (f : Inv u s b full ss₀ l₀ ss l used next left code going b₁) {rest : List ℕ} (from : rest ≡ drop used s) where
   rest-length : length rest ≡ length s - used
   rest-length = ap length from ∙ length-drop used s
 
@@ -306,7 +318,7 @@ module _ {u : Setup} {s b : List ℕ} {at full : ℕ} {ss₀ : List Supply} {l�
         (piece-spends u l (getD ss k z) a rest left p b₁ next b₂ (ltb 0 (p .left) || ltb (p .next) full) d)
 
     pub inv-next : (fitted u a ≡ true → k ≡ a) → (ts : List Supply) → ts ≡ slotsAfter u p ss k → length ts ≡ 31 → length (p .line .kept) ≡ 64 → length b₂ ≡ length b
-        → Inv u s b at full ss₀ l₀ ts (p .line) (used + p .used) (p .next) (p .left) (p .code) (goesOn full (p .code) (p .left) (p .next)) b₂
+        → Inv u s b full ss₀ l₀ ts (p .line) (used + p .used) (p .next) (p .left) (p .code) (goesOn full (p .code) (p .left) (p .next)) b₂
     inv-next reach ts e n w m =
         let there : getD ss k z ≡ getD ss k (fresh 255) = getD-any ss k z (fresh 255) (omega (arith, low, f .slots)) in
         let does : PieceDoes u l (getD ss k z) a (drop used s) left p b₁ next b₂ = rw from at d in
@@ -316,8 +328,8 @@ module _ {u : Setup} {s b : List ℕ} {at full : ℕ} {ss₀ : List Supply} {l�
           slots = n;
           kept = w;
           quiet = λ g. eqb-true (p .code) 0 (and-both (eqb (p .code) 0) (ltb 0 (p .left) || ltb (p .next) full) g .0);
-          unmoved = λ j r. rw e (unmoved-next u s j r ss₀ l₀ b at full ss l used next left code b₁ (rw on at (f .unmoved j r)) (getD ss k z) k there p b₂ a does);
-          stands = λ h i long. rw e (stands-next _ s b at full u ss l used next left code b₁ (rw on at (f .stands h i long)) long (f .inside) (getD ss k z) k there p b₂ a reach (omega (arith, f .slots)) (f .kept) does);
+          unmoved = λ j r. rw e (unmoved-next u s j r ss₀ l₀ b full ss l used next left code b₁ (rw on at (f .unmoved j r)) (getD ss k z) k there p b₂ a does);
+          stands = λ h long. rw e (stands-next _ s b full u ss l used next left code b₁ (rw on at (f .stands h long)) long (f .inside) (getD ss k z) k there p b₂ a reach (omega (arith, f .slots)) (f .kept) does);
         }
 
   module _ (on : going ≡ true) (new : left ≡ 0) where
@@ -338,7 +350,7 @@ module _ {u : Setup} {s b : List ℕ} {at full : ℕ} {ss₀ : List Supply} {l�
       pub sample-less : length s - (used + 8) + bit (ltb next full) < length s - used + bit going
       sample-less = used-less on a z low p sample-does
 
-      pub inv-sample : Inv u s b at full ss₀ l₀ (set ss a (p .supply)) l (used + 8) next left code (ltb next full) b₁
+      pub inv-sample : Inv u s b full ss₀ l₀ (set ss a (p .supply)) l (used + 8) next left code (ltb next full) b₁
       inv-sample = rw (new, f .quiet on) (inv-next on a z low p sample-does (λ q. refl) (set ss a (p .supply)) refl (length-set ss a (p .supply) ∙ f .slots) (f .kept) (f .same))
 
     -- fewer bytes than a header has
@@ -349,7 +361,7 @@ module _ {u : Setup} {s b : List ℕ} {at full : ℕ} {ss₀ : List Supply} {l�
       few-does : PieceDoes u l x 0 rest left (refusedAs l x next 2) b₁ next b₁
       few-does = rw new (bad-header u l x rest b₁ next 0 2 (too-short rest few) (λ h. omega (arith, h)))
 
-      pub inv-few : Inv u s b at full ss₀ l₀ ss l used next left 2 false b₁
+      pub inv-few : Inv u s b full ss₀ l₀ ss l used next left 2 false b₁
       inv-few =
           let k = inv-next on 0 (fresh 255) (omega arith) (refusedAs l x next 2) few-does (λ q. refl) ss (sym (set-same ss 0 x (fresh 255) refl)) (f .slots) (f .kept) (f .same) in
           rw new (rw add-zero at k)

@@ -3,7 +3,7 @@ use Prim.Native.Nat.{ℕ, zero, suc, _+_, _≤_, _<_}
 use mathlib.Core.Path.{_≡_, refl, sym, ap, subst, _∙_}
 use mathlib.Core.Bool.{Bool, true, false}
 use mathlib.Core.List.{List, [], _++_, append-nil}
-use native.Mathlib.Nat.{add-zero}
+use native.Mathlib.Nat.{add-zero, zero-add}
 use native.Mathlib.Omega.{arith}
 use lib.Dec.{eqb}
 use lib.ListN.{length, drop, length-drop, length-append}
@@ -90,18 +90,43 @@ module _ (s x : List ℕ) where
   longer (suc n) zero v used said h f g = absurd (omega (arith, h, g, length-append s x))
   longer (suc n) (suc m) v used said h f g = longer-step n m v used said h f g (λ q k t. longer n m q k t) (callOf plainSupply v (fieldAt (drop used s))) refl
 
+  -- a turn that a refusal or a full buffer ended: the fields that follow it are those of the rest and of what comes
+  module _ (v q : wire.Rack Supply) (used : ℕ) (said : List ℕ) (n : ℕ) (stop : ℕ → Bool) (e : ran q used said n ≡ fieldsOn stop v s) where
+    within : used ≤ length s
+    within = omega (arith, turn-within s v q 0 used [] said n stop (omega arith) e)
+
+    whole : resume s (ran q used said n) ≡ allFields v s
+    whole = rw zero-add at (turn-more s v q 0 used [] said n stop (omega arith) e (allFields v s) refl)
+
+    -- one that a refusal ended is all fields
+    pub turn-all : (n ≡ 0 → ⊥) → ran q used said n ≡ allFields v s
+    turn-all z = rw (ne-eqb n 0 z) at whole
+
+    abbrev From : Ran → Type 0
+    From R = fieldsFrom most never (s ++ x) (R .rack) (R .used) (R .said) ≡ fieldsFrom most never (s ++ x) q used said
+
+    goes-on : allFields v (s ++ x) ≡ fieldsFrom most never (s ++ x) q used said
+    goes-on = longer (suc (length s)) most v 0 [] (omega arith) (omega arith) (omega arith) ∙ byCode (eqb n 0) refl
+      where
+        byCode : (z : Bool) → eqb n 0 ≡ z → From (allFields v s)
+        byCode true z = subst From (rw z at whole) (sym (longer (suc (length s)) most q used said within (omega arith) (omega (arith, within, length-append s x))))
+        byCode false z = subst From (rw z at whole) refl
+
+    pub turn-longer : allFields v (s ++ x) ≡ shifted s used said (allFields q (drop used s ++ x))
+    turn-longer =
+        goes-on
+        ∙ behind (s ++ x) most q used said
+        ∙ ap (shifted s used said) (ap (λ (l : List ℕ). fieldsFrom most never l q 0 []) (drop-append-le used s x within) ∙ fuel (drop used s ++ x) most (suc (length (drop used s ++ x))) q 0 [] (omega arith) (omega (arith, length-append (drop used s) x, length-append s x, length-drop used s)) (omega arith))
+
   module _ (v q : wire.Rack Supply) (used : ℕ) (said : List ℕ) (n : ℕ) (e : ran q used said n ≡ allFields v s) where
     pub all-within : used ≤ length s
-    all-within = subst (λ (R : Ran). R .used ≤ length s) (sym e) (spends never s (suc (length s)) v 0 [] (omega arith) (omega arith) .within)
+    all-within = within v q used said n never e
 
     pub all-ended : callOf plainSupply q (fieldAt (drop used s)) ≡ refused n
     all-ended = subst (λ (R : Ran). callOf plainSupply (R .rack) (fieldAt (drop (R .used) s)) ≡ refused (R .code)) (sym e) (ended s (suc (length s)) v 0 [] (omega arith) (omega arith))
 
     pub all-longer : allFields v (s ++ x) ≡ shifted s used said (allFields q (drop used s ++ x))
-    all-longer =
-        subst (λ (R : Ran). Onto R (allFields v (s ++ x))) (sym e) (longer (suc (length s)) most v 0 [] (omega arith) (omega arith) (omega arith))
-        ∙ behind (s ++ x) most q used said
-        ∙ ap (shifted s used said) (ap (λ (l : List ℕ). fieldsFrom most never l q 0 []) (drop-append-le used s x all-within) ∙ fuel (drop used s ++ x) most (suc (length (drop used s ++ x))) q 0 [] (omega arith) (omega (arith, length-append (drop used s) x, length-append s x, length-drop used s)) (omega arith))
+    all-longer = turn-longer v q used said n never e
 
     -- where the refusal stands though they come
     pub all-still : callOf plainSupply q (fieldAt (drop used s ++ x)) ≡ refused n → ran q used said n ≡ allFields v (s ++ x)

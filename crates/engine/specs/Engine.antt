@@ -2,11 +2,11 @@
 use Prim.Native.Nat.{ℕ, zero, suc, _+_}
 use mathlib.Core.Path.{_≡_}
 use mathlib.Core.Bool.{Bool, false, not}
-use mathlib.Core.List.{List, [], _∷_, _++_}
+use mathlib.Core.List.{List, [], _∷_, _++_, map}
 use lib.Dec.{ltb}
 use lib.ListN.{length, drop}
 use Rattle.base.specs.Choice.{pick}
-use Rattle.base.specs.Put.{Put}
+use Rattle.buffers.specs.Printed.{printed}
 use Rattle.wire.specs.Wire.{Call, refuse, fitted}
 use Rattle.wire.specs.Rack.{refused, done, callOf}
 use Rattle.wire.specs.Rack as wire
@@ -64,18 +64,19 @@ never n = false
 abbrev pub allFields : wire.Rack Supply → List ℕ → Ran
 allFields v s = fieldsOn never v s
 
--- replies from index at of a buffer on, up to the index full
-abbrev pub fullAt : ℕ → ℕ → ℕ → Bool
-fullAt at full n = not (ltb (at + n) full)
+-- what is said reaches the index full of a buffer
+abbrev pub fullAt : ℕ → ℕ → Bool
+fullAt full n = not (ltb n full)
 
--- the rack, the bytes used and the code are those of fields in turn, and what they said stands from index at of the buffer on, all of it
-pub record WorkDoes (r : Rack) (s b : List ℕ) (at full : ℕ) (w : Worked) (b′ : List ℕ) : Type 0 where
+-- the rack, the bytes used and the code are those of fields in turn, and what they said stands at the start of the buffer, all of it,
+-- printed with the byte `ending` for each CR; behind it the buffer is as it was
+pub record WorkDoes (r : Rack) (s b : List ℕ) (full ending : ℕ) (w : Worked) (b′ : List ℕ) : Type 0 where
   pub small : Able (w .rack)
   pub said : List ℕ
-  pub is : ran (viewOf (w .rack)) (w .used) said (w .code) ≡ fieldsOn (fullAt at full) (viewOf r) s
-  pub put : Put b at said (w .next) b′
-  pub whole : w .next ≡ at + length said
+  pub is : ran (viewOf (w .rack)) (w .used) said (w .code) ≡ fieldsOn (fullAt full) (viewOf r) s
+  pub next-is : w .next ≡ length said
+  pub buffer-is : b′ ≡ map (printed ending) said ++ drop (length said) b
 
 -- of any rack: where the first field is refused, all stays as it was
-abbrev pub RefusedFirst : Rack → List ℕ → List ℕ → ℕ → Worked → List ℕ → Type 0
-RefusedFirst r s b at w b′ = (n : ℕ) → readField (fitted (r .setup)) s ≡ refuse n → (w ≡ record { rack = r; used = 0; next = at; code = n }) × (b′ ≡ b)
+abbrev pub RefusedFirst : Rack → List ℕ → List ℕ → Worked → List ℕ → Type 0
+RefusedFirst r s b w b′ = (n : ℕ) → readField (fitted (r .setup)) s ≡ refuse n → (w ≡ record { rack = r; used = 0; next = 0; code = n }) × (b′ ≡ b)

@@ -16,11 +16,11 @@ pub struct Worked {
     pub code: u8,
 }
 
-// Works fields one after the other until one is refused, or their replies, which begin at index `at` of the buffer, reach the
-// index `full`; at least one, so that with `full` at `at` it is one alone.
-pub fn work(r: Rack, s: &[u8], out: &mut [u8], at: usize, full: usize) -> Worked
-    ensures refuses { λ w. ⌜ RefusedFirst r (now (s .entry)) (now (out .entry)) at w (now (out .exit)) ⌝ }
-    ensures works { λ w. ⌜ (Able r → at ≤ full → full + leastReply ≤ length (now (out .entry)) → WorkDoes r (now (s .entry)) (now (out .entry)) at full w (now (out .exit))) ⌝ }
+// Works fields one after the other until one is refused, or their replies reach the index `full` of the buffer; at least one, so that
+// with `full` at 0 it is one alone. Each line of a reply ends by the byte `ending`.
+pub fn work(r: Rack, s: &[u8], out: &mut [u8], full: usize, ending: u8) -> Worked
+    ensures refuses { λ w. ⌜ RefusedFirst r (now (s .entry)) (now (out .entry)) w (now (out .exit)) ⌝ }
+    ensures works { λ w. ⌜ (Able r → full + leastReply ≤ length (now (out .entry)) → WorkDoes r (now (s .entry)) (now (out .entry)) full ending w (now (out .exit))) ⌝ }
 {
     let mut rack = r;
     let line = r.line;
@@ -29,7 +29,7 @@ pub fn work(r: Rack, s: &[u8], out: &mut [u8], at: usize, full: usize) -> Worked
     let mut spoiled = line.spoiled;
     let mut selected = line.selected;
     let mut used = 0;
-    let mut next = at;
+    let mut next = 0;
     let mut left = 0;
     let mut code = 0;
     let mut going = true;
@@ -86,6 +86,7 @@ pub fn work(r: Rack, s: &[u8], out: &mut [u8], at: usize, full: usize) -> Worked
             going = (code == 0) & (next < full);
         }
     }
+    buffers::end_lines(out, next, ending);
     let line = Line {
         kept,
         count,

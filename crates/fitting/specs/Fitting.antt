@@ -1,5 +1,5 @@
 -- A fitting list: which lists are taken, and the fresh rack of a setup.
-use Prim.Native.Nat.{ℕ, _≤_}
+use Prim.Native.Nat.{ℕ}
 use mathlib.Core.Path.{_≡_}
 use mathlib.Core.List.{List, foldl}
 use mathlib.Core.Bool.{Bool, true, _&&_, _||_}
@@ -9,7 +9,7 @@ use Rattle.wire.specs.Rack.{freshRack}
 use Rattle.wire.specs.declared.Setup.{Setup}
 use Rattle.plain.specs.Plain.{plainSupply}
 use Rattle.slots.specs.declared.Rack.{Rack}
-use Rattle.slots.specs.View.{viewOf}
+use Rattle.slots.specs.View.{viewOf, Able}
 
 -- a model number, or 255 for an empty slot
 abbrev pub allowed : ℕ → Bool
@@ -24,5 +24,5 @@ goodList l = eqb (length l) 31 && allAllowed l
 
 -- the fresh rack of a setup: every supply as it is when fitted, no selection, and an empty line that is not spoiled
 pub record Made (u : Setup) (r : Rack) : Type 0 where
-  pub small : r .line .count ≤ 64
+  pub small : Able r
   pub fresh-is : viewOf r ≡ freshRack plainSupply u

@@ -1,14 +1,15 @@
 -- One call as a turn of fields: what it leaves of a buffer, that a short one is refused, and that it is one field in turn.
-use Prim.Native.Nat.{ℕ, _+_, _-_, _≤_, _<_}
+use Prim.Native.Nat.{ℕ, _+_, _-_, _<_}
 use mathlib.Core.Path.{_≡_, refl, sym, ap, _∙_}
-use mathlib.Core.Bool.{Bool, true, false≢true, not, _&&_, _||_}
+use mathlib.Core.Bool.{Bool, true, false≢true, not, _&&_}
 use mathlib.Core.List.{List, [], _++_}
 use native.Mathlib.Omega.{arith}
 use lib.ListN.{length, drop, replicate, length-drop, length-append, length-replicate, getD-replicate}
 use lib.Seq.{getD-drop, getD-append-add}
 use lib.Dec.{eqb}
 use borrow.Author.Tests.{lt-ltb}
-use Rattle.base.proofs.Choice.{and-both}
+use Rattle.base.specs.Lists.{eachTo}
+use Rattle.buffers.specs.Printed.{printed}
 use Rattle.wire.specs.Wire.{parse}
 use Rattle.wire.specs.Rack.{refused, done, callOf}
 use Rattle.wire.specs.Rack as wire
@@ -18,12 +19,10 @@ use Rattle.slots.specs.declared.Rack.{Rack}
 use Rattle.slots.specs.View.{viewOf, Able}
 use Rattle.calls.specs.declared.Answer.{Answer}
 use Rattle.calls.specs.Calls.{refusal, Answered, callAs, CallDoes}
-use Rattle.engine.specs.Engine.{fieldAt, ran, afterField, fieldsFrom, fieldsOn, allFields, fullAt}
+use Rattle.engine.specs.Engine.{fieldAt, ran, afterField, fieldsFrom, fieldsOn, fullAt}
 use Rattle.engine.proofs.Fields.{one-field}
-use Rattle.engine.proofs.Turns.{resume, turn-within, turn-spends, turn-more, all-ended}
-use Rattle.cuts.proofs.Cuts.{waits-is, waiting-short}
 use Rattle.one_by_one.specs.declared.Tried.{Tried}
-use Rattle.one_by_one.specs.Called.{Unwritten, OneCall, AllCalled}
+use Rattle.one_by_one.specs.Called.{Unwritten, OneCall}
 
 -- a buffer before its call
 pub fresh-buffer : (n : ℕ) → Unwritten (replicate n 165) 0
@@ -60,54 +59,28 @@ tried-right r s a b′ still d u =
     rw (k .0, u (rw (k .1) (fresh-buffer 511))) refl
 
 -- and the call on the rack that it left is a call on the rack before it, which leaves the rest of its buffer as it was
-module _ (r : Rack) (s : List ℕ) (t : Tried) (a : Answer) (b′ : List ℕ) (e : t ≡ record { rack = r; right = true }) (d : CallDoes (t .rack) s (replicate 512 165) a b′) where
-  same : CallDoes r s (replicate 512 165) a b′
+module _ (r : Rack) (s : List ℕ) (t : Tried) (b : List ℕ) (a : Answer) (b′ : List ℕ) (e : t ≡ record { rack = r; right = true }) (long : length b ≡ 512) (d : CallDoes (t .rack) s b a b′) where
+  same : CallDoes r s b a b′
   same = rw e at d
 
-  pub called : OneCall r s a
-  called = record { before = replicate 512 165; after = b′; room = length-replicate {A = ℕ} 512 165; does = same }
+  pub called : (b″ : List ℕ) → b″ ≡ eachTo (λ i x. printed 10 x) (a .length) b′ → OneCall r s a b″
+  called b″ p = record { before = b; after = b′; room = long; does = same; handed = p }
 
-  pub never-wrong : Able r → (still : Bool) → (Unwritten b′ (a .length) → still ≡ true) → not (t .right && still) ≡ true → ⊥
-  never-wrong small still u f = false≢true (rw (e, u (rest-unwritten r s (replicate 512 165) a b′ same small (fresh-buffer 512))) at f)
+  pub never-wrong : Able r → Unwritten b 0 → (still : Bool) → (Unwritten b′ (a .length) → still ≡ true) → not (t .right && still) ≡ true → ⊥
+  never-wrong small fresh still u f = false≢true (rw (e, u (rest-unwritten r s b a b′ same small fresh)) at f)
 
 -- one call with a buffer of 512 bytes is one field in turn
-record Turn (r : Rack) (s : List ℕ) (a : Answer) : Type 0 where
+pub record Turn (r : Rack) (s : List ℕ) (a : Answer) : Type 0 where
   pub small : Able (a .rack)
   pub said : List ℕ
-  pub is : ran (viewOf (a .rack)) (a .used) said (a .code) ≡ fieldsOn (fullAt 0 0) (viewOf r) s
+  pub is : ran (viewOf (a .rack)) (a .used) said (a .code) ≡ fieldsOn (fullAt 0) (viewOf r) s
 
-one-turn : (r : Rack) (s : List ℕ) (a : Answer) → Able r → OneCall r s a → Turn r s a
-one-turn r s a small o = byAnswer (callOf plainSupply (viewOf r) (fieldAt s)) refl (rw (o .room) at (o .does))
+pub one-turn : (r : Rack) (s : List ℕ) (a : Answer) (b : List ℕ) → Able r → OneCall r s a b → Turn r s a
+one-turn r s a b small o = byAnswer (callOf plainSupply (viewOf r) (fieldAt s)) refl (rw (o .room) at (o .does))
   where
     byAnswer : (w : wire.Answer Supply) → callOf plainSupply (viewOf r) (fieldAt s) ≡ w → Answered r (o .before) w a (o .after) → Turn r s a
     byAnswer (refused n) e x =
-        rw (x .0) (record { small = small; said = []; is = sym (ap (afterField (fieldsFrom (length s) (fullAt 0 0) s) (fullAt 0 0) (viewOf r) 0 []) e) })
+        rw (x .0) (record { small = small; said = []; is = sym (ap (afterField (fieldsFrom (length s) (fullAt 0) s) (fullAt 0) (viewOf r) 0 []) e) })
     byAnswer (done q n t) e x =
         let k = x small in
         record { small = k .small; said = t; is = rw (k .rack-is, k .used-is, k .code-is) (sym (one-field (viewOf r) q s n t e)) }
-
--- a call more, on the bytes that are left of s; the calls began on the rack first
-pub record Onward (s : List ℕ) (first : wire.Rack Supply) (used : ℕ) (a : Answer) : Type 0 where
-  pub within : used + a .used ≤ length s
-  pub spends : a .code ≡ 0 → 0 < a .used
-  pub small : Able (a .rack)
-  pub said : List ℕ
-  pub rest : resume s (ran (viewOf (a .rack)) (used + a .used) said (a .code)) ≡ allFields first s
-
-pub one-more : (s : List ℕ) (first : wire.Rack Supply) (r : Rack) (used : ℕ) (said : List ℕ) (a : Answer) → used ≤ length s → Able r
-    → resume s (ran (viewOf r) used said 0) ≡ allFields first s → OneCall r (drop used s) a → Onward s first used a
-one-more s first r used said a low small e o =
-    let d = one-turn r (drop used s) a small o in
-    record {
-      within = turn-within s (viewOf r) (viewOf (a .rack)) used (a .used) said (d .said) (a .code) (fullAt 0 0) low (d .is);
-      spends = turn-spends s (viewOf r) (viewOf (a .rack)) used (a .used) said (d .said) (a .code) (fullAt 0 0) low (d .is);
-      small = d .small;
-      said = said ++ d .said;
-      rest = turn-more s (viewOf r) (viewOf (a .rack)) used (a .used) said (d .said) (a .code) (fullAt 0 0) low (d .is) (allFields first s) e;
-    }
-
--- what is left of the bytes is short where the refusal may wait for others
-pub rest-short : (r : Rack) (s : List ℕ) (a : Answer) → AllCalled r s a → (k : ℕ) → k ≡ length (drop (a .used) s) → (brought : Bool) → (brought && (eqb (a .code) 2 || eqb (a .code) 5)) ≡ true → k ≤ 18
-rest-short r s a d k e brought t =
-    let ended = all-ended s [] (viewOf r) (viewOf (a .rack)) (a .used) (d .said) (a .code) (d .is) in
-    omega (arith, e, waiting-short (viewOf (a .rack)) (drop (a .used) s) (a .code) ended (waits-is (a .code) (and-both brought (eqb (a .code) 2 || eqb (a .code) 5) t .1)))

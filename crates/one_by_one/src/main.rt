@@ -5,9 +5,7 @@ ghost use mathlib.Core.Path.{_≡_};
 ghost use mathlib.Core.Bool.{true};
 ghost use lib.ListN.{length};
 ghost use Rattle.slots.specs.View.{Able};
-ghost use Rattle.one_by_one.specs.Called.{Unwritten, OneCall, AllCalled};
-use libc::STDIN_FILENO;
-use libc::STDOUT_FILENO;
+ghost use Rattle.one_by_one.specs.Called.{Unwritten, OneCall};
 use rack::Answer;
 use slots::Rack;
 
@@ -22,8 +20,8 @@ const SHORT: usize = 511;
 // The bytes of a fitting list.
 const LIST: usize = 31;
 
-// More reads than any run makes.
-const READS: u64 = u64::MAX;
+// The byte that ends each line written.
+const LF: u8 = 10;
 
 // A call with a short buffer: the rack that it gives back, and whether it was refused as it should be.
 struct Tried {
@@ -45,6 +43,17 @@ fn unwritten(reply: &[u8], from: usize) -> bool
     true
 }
 
+// The buffer as it is before a call.
+fn fill(reply: &mut [u8])
+    ensures { λ _. ⌜ (length (now (reply .exit)) ≡ length (now (reply .entry))) × Unwritten (now (reply .exit)) 0 ⌝ }
+{
+    let mut i = 0;
+    while i < reply.len() {
+        reply[i] = UNWRITTEN;
+        i += 1;
+    }
+}
+
 // The field in a buffer that is a byte too short.
 fn try_short(r: Rack, s: &[u8]) -> Tried
     ensures { λ t. ⌜ t ≡ record { rack = r; right = true } ⌝ }
@@ -58,7 +67,7 @@ fn try_short(r: Rack, s: &[u8]) -> Tried
 
 // Nothing that is proved leads here; the machine code is tried all the same. No list draws refusal 1.
 fn say_wrong(r: Rack) -> Answer {
-    io::write_all(STDOUT_FILENO, b"wrong\n");
+    console::write_out(b"wrong\n");
     Answer {
         code: 1,
         rack: r,
@@ -67,73 +76,59 @@ fn say_wrong(r: Rack) -> Answer {
     }
 }
 
-// The first field of the bytes, by one call on the rack that the short buffer left, and its reply written.
-fn take_field(r: Rack, s: &[u8]) -> Answer
-    requires { ⌜ Able r ⌝ }
-    ensures { λ a. ⌜ OneCall r (now (s .entry)) a ⌝ }
+// The first field of the bytes, by one call on the rack that the short buffer left. What is to be written stands at the start of the
+// buffer.
+fn take_field(r: Rack, s: &[u8], out: &mut [u8]) -> Answer
+    requires { ⌜ Able r × (length (now out) ≡ 512) ⌝ }
+    ensures { λ a. ⌜ OneCall r (now (s .entry)) a (now (out .exit)) ⌝ }
 {
     let tried = try_short(r, s);
     let same = tried.rack;
-    let mut reply = [UNWRITTEN; LEAST];
-    let a = rack::call(same, s, &mut reply);
+    fill(out);
+    let a = rack::call(same, s, out);
     let n = a.length;
-    if !(tried.right & unwritten(&reply, n)) {
+    if !(tried.right & unwritten(out, n)) {
         return say_wrong(same);
     }
-    console::write_out(&mut reply, n);
+    buffers::end_lines(out, n, LF);
     a
 }
 
-// The fields of the bytes one by one, until one is refused, at the latest for want of bytes.
-fn take_fields(r: Rack, s: &[u8]) -> Answer
-    requires { ⌜ Able r ⌝ }
-    ensures { λ a. ⌜ AllCalled r (now (s .entry)) a ⌝ }
-{
-    let mut a = Answer {
-        code: 0,
-        rack: r,
-        used: 0,
-        length: 0,
-    };
-    let mut used = 0;
-    while a.code == 0 {
-        let rack = a.rack;
-        a = take_field(rack, base::part_from(s, used));
-        used += a.used;
-    }
-    a.used = used;
-    a
-}
-
-// Works the input to its end, or to the first refusal, and tells its number, or 0.
-fn take_input(r: Rack, room: &mut [u8]) -> u8
-    requires { ⌜ (Able r) × (length (now room) ≡ 65536) ⌝ }
+// Works the input field by field, and writes what each draws, to the input's end, the first refusal or a fault; tells the number of the
+// refusal, or 0.
+fn take_input(r: Rack, room: &mut [u8], out: &mut [u8]) -> u8
+    requires { ⌜ Able r × (length (now out) ≡ 512) × (length (now room) ≡ 8192) ⌝ }
 {
     let mut rack = r;
-    let mut kept = 0;
+    let mut block = stream::no_block();
     let mut code = 2;
+    let mut sent = true;
     let mut more = true;
-    let mut reads = READS;
-    while 0 < reads && more {
-        let n = console::take_block(room, kept);
-        let a = take_fields(rack, base::part_to(room, n));
+    while more {
+        block = stream::refill(room, block, code);
+        let there = base::part_to(room, block.end);
+        let a = take_field(rack, base::part_from(there, block.from), out);
         rack = a.rack;
         code = a.code;
-        more = (kept < n) & console::waits(code);
-        kept = buffers::keep_rest(room, a.used, n);
-        reads -= 1;
+        sent = console::write_out(base::part_to(out, a.length));
+        block.from += a.used;
+        more = stream::goes_on(sent, code, console::waits(code), block);
     }
-    if kept == 0 { 0 } else { code }
+    stream::told_at_end(sent, code, block)
 }
 
 fn main() {
     let mut list = [0u8; LIST];
-    let n = io::read_full(STDIN_FILENO, &mut list);
-    let fitted = rack::fit(&list[..n]);
+    let got = console::read_full(&mut list);
+    if got.failed {
+        return;
+    }
+    let fitted = rack::fit(base::part_to(&list, got.count));
     let mut code = fitted.code;
     if code == 0 {
-        let mut room = io::large_buffer();
-        code = take_input(fitted.rack, &mut room);
+        let mut room = console::buffer();
+        let mut out = [UNWRITTEN; LEAST];
+        code = take_input(fitted.rack, &mut room, &mut out);
     }
     if code != 0 {
         console::say_refusal(code);

@@ -6,10 +6,11 @@ use Rattle.controller.proofs.main.Statement.{statement}
 use Rattle.controller.proofs.main.Tie as tie
 use Rattle.controller.proofs.main.Reads as reads
 use Rattle.controller.proofs.main.Lts as lts
+use Rattle.base.proofs.part_to.Reads as part-to-reads
+use Rattle.console.proofs.buffer.Reads as buffer-reads
+use Rattle.console.proofs.read_full.Reads as read-full-reads
 use Rattle.console.proofs.say_refusal.Reads as say-refusal-reads
 use Rattle.controller.proofs.take_input.Reads as take-input-reads
-use Rattle.io.proofs.large_buffer.Reads as large-buffer-reads
-use Rattle.io.proofs.read_full.Reads as read-full-reads
 use Rattle.rack.proofs.fit.Reads as fit-reads
 
 slice-aggregate-read-full : tie.Need-slice-aggregate-read-full
@@ -18,20 +19,23 @@ slice-aggregate-read-full c = search needs
 read-full-requires : tie.Need-read-full-requires
 read-full-requires c κs = search needs
 
-array-share-prefix-list : tie.Need-array-share-prefix-list
-array-share-prefix-list c = search needs
+returns : tie.Need-returns
+returns c = search needs
 
-slice-aggregate-fit : tie.Need-slice-aggregate-fit
-slice-aggregate-fit c = search needs
+slice-aggregate-part-to : tie.Need-slice-aggregate-part-to
+slice-aggregate-part-to c = search needs
+
+part-to-requires : tie.Need-part-to-requires
+part-to-requires c κs = search needs
 
 fit-requires : tie.Need-fit-requires
 fit-requires c κs = search needs
 
-large-buffer-requires : tie.Need-large-buffer-requires
-large-buffer-requires c κs = search needs
+buffer-requires : tie.Need-buffer-requires
+buffer-requires c κs = search needs
 
-large-buffer-requires-2 : tie.Need-large-buffer-requires-2
-large-buffer-requires-2 c κs = search needs
+buffer-requires-2 : tie.Need-buffer-requires-2
+buffer-requires-2 c κs = search needs
 
 slice-aggregate-take-input : tie.Need-slice-aggregate-take-input
 slice-aggregate-take-input c = search needs
@@ -40,16 +44,16 @@ slice-aggregate-take-input-2 : tie.Need-slice-aggregate-take-input-2
 slice-aggregate-take-input-2 c = search needs
 
 take-input-requires : tie.Need-take-input-requires
-take-input-requires c κs = (fitted-small _ _ (c .before .before .before .before .before .fit .ensures), sym (c .before .before .large-buffer2 .ensures), sym (c .before .before .before .large-buffer .ensures))
+take-input-requires c κs = (fitted-small _ _ (c .before .before .before .before .before .fit .ensures), sym (c .before .before .buffer2 .ensures), sym (c .before .before .before .buffer .ensures))
 
 say-refusal-requires : tie.Need-say-refusal-requires
 say-refusal-requires c κs = search needs
 
-returns : tie.Need-returns
-returns c = search needs
-
 returns-2 : tie.Need-returns-2
 returns-2 c = search needs
+
+returns-3 : tie.Need-returns-3
+returns-3 c = search needs
 
 pub main-spec : {M : Type 1} → statement M
 main-spec =
@@ -57,14 +61,15 @@ main-spec =
     (tie.spec
     slice-aggregate-read-full
     read-full-requires
-    array-share-prefix-list
-    slice-aggregate-fit
+    returns
+    slice-aggregate-part-to
+    part-to-requires
     fit-requires
-    large-buffer-requires
-    large-buffer-requires-2
+    buffer-requires
+    buffer-requires-2
     slice-aggregate-take-input
     slice-aggregate-take-input-2
     take-input-requires
     say-refusal-requires
-    returns
-    returns-2)
+    returns-2
+    returns-3)

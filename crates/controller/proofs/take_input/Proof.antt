@@ -1,39 +1,42 @@
--- `take_input` meets its contract: after each turn what was read so far is worked, up to an index or to a refusal; each read leaves fewer
--- of those that it may make, and a turn without one fewer bytes.
+-- `take_input` is safe and ends: each turn continues the turns before it, has a rack and a buffer of which `turn` speaks, and leaves fewer
+-- reads to be made or fewer bytes to be worked.
 use borrow.Author.Needs.{needs}
-use native.Mathlib.Omega.{arith}
-use mathlib.Core.Path.{_≡_, refl, sym, ap, _∙_}
-use Prim.Native.Nat.{_≤_}
+use mathlib.Core.Bool.{true}
+use mathlib.Core.Path.{_≡_, refl, ap, _∙_}
 use lib.ListN.{length, drop}
 use Rattle.slots.specs.View.{viewOf, Able}
 use Rattle.engine.specs.Engine.{fullAt}
-use Rattle.controller.proofs.Pieces.{At, at-start, has-room, weight, Turned, a-turn, ends-quietly, ends-refused}
+use Rattle.stream.proofs.Loop.{At, at-start, has-room, weight, Turned, a-turn}
 use Rattle.controller.proofs.take_input.Statement.{statement}
 use Rattle.controller.proofs.take_input.Tie as tie
 use Rattle.controller.proofs.take_input.Reads as reads
 use Rattle.controller.proofs.take_input.Lts as lts
 use Rattle.base.proofs.part_from.Reads as part-from-reads
 use Rattle.base.proofs.part_to.Reads as part-to-reads
-use Rattle.console.proofs.waits.Reads as waits-reads
 use Rattle.console.proofs.write_out.Reads as write-out-reads
-use Rattle.controller.proofs.refill.Reads as refill-reads
-use Rattle.engine.proofs.work.Reads as work-reads
+use Rattle.controller.proofs.turn.Reads as turn-reads
+use Rattle.stream.proofs.no_block.Reads as no-block-reads
+use Rattle.stream.proofs.refill.Reads as refill-reads
+use Rattle.stream.proofs.goes_on.Reads as goes-on-reads
+use Rattle.stream.proofs.told_at_end.Reads as told-at-end-reads
 
 abbrev Inv-loop : tie.InvT-loop
-Inv-loop room₀ out₀ rack₀ block₀ code₀ more₀ room out rack block code more =
-    (length room ≡ length room₀) × (length out ≡ length out₀) × Able rack
-    × At (viewOf rack₀) (viewOf rack) room block code more
+Inv-loop room₀ out₀ rack₀ block₀ code₀ sent₀ more₀ room out rack block code sent more =
+    (length room ≡ length room₀) × (length out ≡ length out₀) × Able rack × At (viewOf rack₀) (viewOf rack) room block code more × (more ≡ true → sent ≡ true)
 
 abbrev μ-loop : tie.MeasureT-loop
-μ-loop room₀ out₀ rack₀ block₀ code₀ more₀ room out rack block code more = weight block code
+μ-loop room₀ out₀ rack₀ block₀ code₀ sent₀ more₀ room out rack block code sent more = weight block code
+
+no-block-requires : tie.Need-no-block-requires Inv-loop μ-loop
+no-block-requires c κs = search needs
 
 loop-holds : tie.Need-loop-holds Inv-loop μ-loop
-loop-holds c = (refl, refl, c .before .before .pre .0, at-start _ _)
+loop-holds c = (refl, refl, c .before .before .before .pre .0, at-start _ _ _ (c .no-block .ensures), λ t. refl)
 
 refill-requires : tie.Need-refill-requires Inv-loop μ-loop
 refill-requires c κs =
     let l = c .before .before .loop in
-    has-room _ (viewOf (l .rack)) (l .room) (l .block) (l .code) (rw (c .before .loop-test .taken) at (l .inv .3)) (l .inv .0 ∙ c .before .before .before .before .before .pre .2)
+    has-room (rw (c .before .loop-test .taken) at (l .inv .3)) (l .inv .0 ∙ c .before .before .before .before .before .before .pre .2)
 
 part-to-requires : tie.Need-part-to-requires Inv-loop μ-loop
 part-to-requires c κs = search needs
@@ -41,41 +44,51 @@ part-to-requires c κs = search needs
 part-from-requires : tie.Need-part-from-requires Inv-loop μ-loop
 part-from-requires c κs = search needs
 
-work-requires : tie.Need-work-requires Inv-loop μ-loop
-work-requires c κs = search needs
+turn-requires : tie.Need-turn-requires Inv-loop μ-loop
+turn-requires c κs =
+    let l = c .before .before .before .before .before .before .before .before .before .loop in
+    let long : length (l .out) ≡ 8192 = l .inv .1 ∙ c .before .before .before .before .before .before .before .before .before .before .before .before .before .pre .1 in
+    (l .inv .2, search (needs, long))
+
+part-to-requires-2 : tie.Need-part-to-requires-2 Inv-loop μ-loop
+part-to-requires-2 c κs = search needs
 
 write-out-requires : tie.Need-write-out-requires Inv-loop μ-loop
 write-out-requires c κs = search needs
 
 -- where the loop stands behind the turn that was just made
 turned :
-    (m : lts.After-struct-known2 (refill-reads.Asked, refill-reads.Learnt, part-to-reads.Asked, part-to-reads.Learnt, part-from-reads.Asked, part-from-reads.Learnt, work-reads.Asked, work-reads.Learnt, write-out-reads.Asked, write-out-reads.Learnt, waits-reads.Asked, waits-reads.Learnt) reads.Pre reads.Post Inv-loop μ-loop)
-    → Able (m .before .before .before .before .before .before .before .before .before .work .result .rack)
-    × Turned (viewOf (m .before .before .before .before .before .before .before .before .before .before .before .before .before .before .before .before .before .before .before .before .before .before .args .r)) (viewOf (m .before .before .before .before .before .before .before .before .before .work .result .rack)) (m .before .before .before .before .before .before .before .before .before .before .before .before .before .before .before .before .refill .last .0) (m .before .before .before .before .before .before .before .before .before .before .before .before .before .before .before .before .before .before .before .loop .block) (m .before .before .before .before .before .before .before .before .before .before .before .before .before .before .before .before .refill .result) (m .before .before .before .before .before .before .before .before .before .before .before .before .before .before .before .before .before .before .before .loop .code) (m .before .before .before .before .before .before .before .before .before .work .result .used) (m .before .before .before .before .before .before .before .before .before .work .result .code)
+    (m : lts.After-struct-known2 (no-block-reads.Asked, no-block-reads.Learnt, refill-reads.Asked, refill-reads.Learnt, part-to-reads.Asked, part-to-reads.Learnt, part-from-reads.Asked, part-from-reads.Learnt, turn-reads.Asked, turn-reads.Learnt, write-out-reads.Asked, write-out-reads.Learnt, goes-on-reads.Asked, goes-on-reads.Learnt, told-at-end-reads.Asked, told-at-end-reads.Learnt) reads.Pre reads.Post Inv-loop μ-loop)
+    → Able (m .before .before .before .before .before .before .before .before .turn .result .rack)
+    × Turned (viewOf (m .before .before .before .before .before .before .before .before .before .before .before .before .before .before .before .before .before .before .before .before .before .before .args .r)) (viewOf (m .before .before .before .before .before .before .before .before .turn .result .rack)) (m .before .before .before .before .before .before .before .before .before .before .before .before .before .before .before .refill .last .0) (m .before .before .before .before .before .before .before .before .before .before .before .before .before .before .before .before .before .before .loop .block) (m .before .before .before .before .before .before .before .before .before .before .before .before .before .before .before .refill .result) (m .before .before .before .before .before .before .before .before .before .before .before .before .before .before .before .before .before .before .loop .code) (m .before .before .before .before .before .before .before .before .turn .result .used) (m .before .before .before .before .before .before .before .before .turn .result .code) (m .before .before .write-out .result)
+    × (length (m .before .before .before .before .before .before .before .before .before .before .before .before .before .before .before .refill .last .0) ≡ length (m .before .before .before .before .before .before .before .before .before .before .before .before .before .before .before .before .before .before .loop .room))
 turned m =
-    let l = m .before .before .before .before .before .before .before .before .before .before .before .before .before .before .before .before .before .before .before .loop in
-    let start = m .before .before .before .before .before .before .before .before .before .before .before .before .before .before .before .before .before .before .before .before .before .before in
-    let f = m .before .before .before .before .before .before .before .before .before .before .before .before .before .before .before .before .refill in
-    let w = m .before .before .before .before .before .before .before .before .before .work in
-    let d = w .ensures .1 (l .inv .2) (omega arith) (omega (arith, l .inv .1, start .pre .1)) in
-    let bytes = m .before .before .before .before .before .before .before .before .before .before .before .part-from .ensures ∙ ap (drop (f .result .from)) (m .before .before .before .before .before .before .before .before .before .before .before .before .part-to .ensures) in
+    let l = m .before .before .before .before .before .before .before .before .before .before .before .before .before .before .before .before .before .before .loop in
+    let f = m .before .before .before .before .before .before .before .before .before .before .before .before .before .before .before .refill in
+    let t = m .before .before .before .before .before .before .before .before .turn in
+    let d = t .ensures in
+    let bytes = m .before .before .before .before .before .before .before .before .before .before .part-from .ensures ∙ ap (drop (f .result .from)) (m .before .before .before .before .before .before .before .before .before .before .before .part-to .ensures) in
     let long : length (f .last .0) ≡ length (l .room) = search needs in
-    (d .small, a-turn (viewOf (start .args .r)) (viewOf (l .rack)) (viewOf (w .result .rack)) (l .room) (f .last .0) (l .block) (f .result) (l .code) (w .result .used) (d .said) (w .result .code) (fullAt 0 61440) (rw (m .before .before .before .before .before .before .before .before .before .before .before .before .before .before .before .before .before .before .loop-test .taken) at (l .inv .3)) (f .ensures) (long ∙ l .inv .0 ∙ start .pre .2) (rw bytes at (d .is)))
+    (d .small, a-turn (rw (m .before .before .before .before .before .before .before .before .before .before .before .before .before .before .before .before .before .loop-test .taken) at (l .inv .3)) (f .ensures) (long ∙ l .inv .0 ∙ m .before .before .before .before .before .before .before .before .before .before .before .before .before .before .before .before .before .before .before .before .before .before .pre .2) (viewOf (t .result .rack)) (t .result .used) (d .said) (t .result .code) (fullAt 7680) (rw bytes at (d .is)) (m .before .before .write-out .result), long)
 
 add-block : tie.Need-add-block Inv-loop μ-loop
 add-block c = search (needs, turned c .1 .within)
 
-waits-requires : tie.Need-waits-requires Inv-loop μ-loop
-waits-requires c κs = search needs
+goes-on-requires : tie.Need-goes-on-requires Inv-loop μ-loop
+goes-on-requires c κs = search needs
 
 loop-less : tie.Need-loop-less Inv-loop μ-loop
-loop-less c = turned (c .before .before .before) .1 .less
+loop-less c = turned (c .before) .1 .less
 
 loop-again : tie.Need-loop-again Inv-loop μ-loop
 loop-again c =
-    let l = c .before .before .before .before .before .before .before .before .before .before .before .before .before .before .before .before .before .before .before .before .before .before .loop in
-    let w = c .before .before .before .before .before .before .before .before .before .before .before .before .work in
-    (turned (c .before .before .before) .1 .size ∙ sym (c .before .before .before .before .before .before .before .before .before .before .before .before .before .before .before .before .before .before .before .before .before .before .before .before .before .pre .2), search needs, turned (c .before .before .before) .0, rw (c .before .before .waits .ensures) (turned (c .before .before .before) .1 .at))
+    let l = c .before .before .before .before .before .before .before .before .before .before .before .before .before .before .before .before .before .before .before .loop in
+    let t = c .before .before .before .before .before .before .before .before .before .turn in
+    let z = turned (c .before) in
+    (z .2 ∙ l .inv .0, search needs, z .0, rw (c .goes-on .ensures, t .ensures .reads-on) (z .1 .at), rw (c .goes-on .ensures, t .ensures .reads-on) (z .1 .sends))
+
+told-at-end-requires : tie.Need-told-at-end-requires Inv-loop μ-loop
+told-at-end-requires c κs = search needs
 
 same-length : tie.Need-same-length Inv-loop μ-loop
 same-length c = search needs
@@ -84,20 +97,7 @@ same-length-2 : tie.Need-same-length-2 Inv-loop μ-loop
 same-length-2 c = search needs
 
 returns : tie.Need-returns Inv-loop μ-loop
-returns c =
-    let l = c .before .before .before .loop in
-    ends-quietly _ (viewOf (l .rack)) (l .room) (l .block) (l .code) (rw (c .before .before .loop-test .left) at (l .inv .3)) (c .if1 .taken)
-
-same-length-3 : tie.Need-same-length-3 Inv-loop μ-loop
-same-length-3 c = search needs
-
-same-length-4 : tie.Need-same-length-4 Inv-loop μ-loop
-same-length-4 c = search needs
-
-returns-2 : tie.Need-returns-2 Inv-loop μ-loop
-returns-2 c =
-    let l = c .before .before .before .loop in
-    ends-refused _ (viewOf (l .rack)) (l .room) (l .block) (l .code) (rw (c .before .before .loop-test .left) at (l .inv .3)) (c .if1 .left)
+returns c = search needs
 
 pub take-input-spec : {M : Type 1} → statement M
 take-input-spec =
@@ -105,19 +105,19 @@ take-input-spec =
     (tie.spec
     Inv-loop
     μ-loop
+    no-block-requires
     loop-holds
     refill-requires
     part-to-requires
     part-from-requires
-    work-requires
+    turn-requires
+    part-to-requires-2
     write-out-requires
     add-block
-    waits-requires
+    goes-on-requires
     loop-less
     loop-again
+    told-at-end-requires
     same-length
     same-length-2
-    returns
-    same-length-3
-    same-length-4
-    returns-2)
+    returns)

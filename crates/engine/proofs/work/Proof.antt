@@ -10,7 +10,7 @@ use Rattle.supply.specs.State.{fresh}
 use Rattle.serial.specs.View.{lineOf}
 use Rattle.pieces.specs.Pieces.{eventAs}
 use Rattle.pieces.proofs.Pieces.{not-serial, sample-known}
-use Rattle.engine.proofs.Stands.{Inv, inv-start, left-in, used-in, used-less, inv-next, sample-in, sample-less, inv-sample, inv-few, few-less, refused-answer}
+use Rattle.engine.proofs.Stands.{Inv, inv-start, left-in, used-in, used-less, inv-next, sample-in, sample-less, inv-sample, inv-few, few-less, refused-answer, printed-said, printed-none}
 use Rattle.engine.proofs.work.Statement.{statement}
 use Rattle.engine.proofs.work.Tie as tie
 use Rattle.engine.proofs.work.Reads as reads
@@ -24,17 +24,18 @@ use Rattle.pieces.proofs.take_sample.Reads as take-sample-reads
 use Rattle.pieces.proofs.take_serial.Reads as take-serial-reads
 use Rattle.field.proofs.byte_at.Reads as byte-at-reads
 use Rattle.globals.proofs.order_all.Reads as order-all-reads
+use Rattle.buffers.proofs.end_lines.Reads as end-lines-reads
 
 abbrev Inv-loop : tie.InvT-loop
-Inv-loop s out₀ at full rack₀ kept₀ count₀ spoiled₀ selected₀ used₀ next₀ left₀ code₀ going₀ out rack kept count spoiled selected used next left code going =
-    (rack .setup ≡ rack₀ .setup) × Inv (rack .setup) s out₀ at full (rack₀ .slots) (lineOf kept₀ count₀ spoiled₀ selected₀) (rack .slots) (lineOf kept count spoiled selected) used next left code going out
+Inv-loop s out₀ full ending rack₀ kept₀ count₀ spoiled₀ selected₀ used₀ next₀ left₀ code₀ going₀ out rack kept count spoiled selected used next left code going =
+    (rack .setup ≡ rack₀ .setup) × Inv (rack .setup) s out₀ full (rack₀ .slots) (lineOf kept₀ count₀ spoiled₀ selected₀) (rack .slots) (lineOf kept count spoiled selected) used next left code going out
 
 abbrev μ-loop : tie.MeasureT-loop
-μ-loop s out₀ at full rack₀ kept₀ count₀ spoiled₀ selected₀ used₀ next₀ left₀ code₀ going₀ out rack kept count spoiled selected used next left code going =
+μ-loop s out₀ full ending rack₀ kept₀ count₀ spoiled₀ selected₀ used₀ next₀ left₀ code₀ going₀ out rack kept count spoiled selected used next left code going =
     length s - used + bit going
 
 loop-holds : tie.Need-loop-holds Inv-loop μ-loop
-loop-holds c = (refl, inv-start _ _ _ _ _ _ _ (simp length-map at (c .before .before .before .before .good .0 .1 .1 .0 .1 .0 .1)) (search needs))
+loop-holds c = (refl, inv-start _ _ _ _ _ _ (simp length-map at (c .before .before .before .before .good .0 .1 .1 .0 .1 .0 .1)) (search needs))
 
 part-from-requires : tie.Need-part-from-requires Inv-loop μ-loop
 part-from-requires c κs = search needs
@@ -249,18 +250,23 @@ loop-again-5 c =
     let on = c .before .before .before .before .before .before .before .before .before .before .before .before .before .loop-test .taken in
     (l .inv .0, rw new (inv-next (l .inv .1) from on _ _ (slot .0) (eventAs line (l .next) (t .result)) d (rw (c .before .before .before .before .before .byte-at2 .ensures) at (slot .1)) _ refl (length-set (l .rack .slots) _ _ ∙ l .inv .1 .slots) (l .inv .1 .kept) (search needs)))
 
+end-lines-requires : tie.Need-end-lines-requires Inv-loop μ-loop
+end-lines-requires c κs = search needs
+
 same-length : tie.Need-same-length Inv-loop μ-loop
 same-length c = search needs
 
 returns : tie.Need-returns Inv-loop μ-loop
 returns c =
-    let l = c .before .loop in
+    let l = c .before .before .before .before .before .loop in
+    let over = c .before .before .before .before .loop-test .left in
+    let printed = c .before .before .end-lines .ensures in
     let i = l .inv .1 in
     let same = l .inv .0 in (
-      λ n e. let f = i .unmoved n (rw same e) in (refused-answer _ _ _ _ _ _ _ _ _ _ _ (f .slots-are) (f .line-is) same (f .used-is) (f .next-is) (f .code-is (c .loop-test .left)), f .buffer-is),
-      λ h low long.
-          let f = i .stands h low long in
-          record { small = f .small; said = f .said; is = rw (← same) (f .ended (c .loop-test .left)); put = f .put; whole = f .whole },
+      λ n e. let f = i .unmoved n (rw same e) in (refused-answer _ _ _ _ _ _ _ _ _ _ (f .slots-are) (f .line-is) same (f .used-is) (f .next-is) (f .code-is over), printed ∙ printed-none _ _ _ _ (f .next-is) (f .buffer-is)),
+      λ h long.
+          let f = i .stands h long in
+          record { small = f .small; said = f .said; is = rw (← same) (f .ended over); next-is = f .whole; buffer-is = printed ∙ printed-said _ _ (f .said) _ _ (f .put) (f .whole) },
     )
 
 pub work-spec : {M : Type 1} → statement M
@@ -307,5 +313,6 @@ work-spec =
     add-used-3
     loop-less-5
     loop-again-5
+    end-lines-requires
     same-length
     returns)

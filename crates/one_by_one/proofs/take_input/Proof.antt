@@ -1,74 +1,107 @@
--- `take_input` is safe and ends: what waits for other bytes is short, so that a read has room, and the reads that it may make fall to 0.
+-- `take_input` is safe and ends: each call continues the turns before it, has a rack and a buffer of which `take_field` speaks, and leaves
+-- fewer reads to be made or fewer bytes to be worked.
 use borrow.Author.Needs.{needs}
-use mathlib.Core.Path.{_≡_, refl}
 use mathlib.Core.Bool.{true}
-use Prim.Native.Nat.{_≤_}
-use native.Mathlib.Omega.{arith}
-use lib.Dec.{ltb}
-use lib.ListN.{length}
-use Rattle.slots.specs.View.{Able}
-use Rattle.one_by_one.proofs.Turns.{rest-short}
+use mathlib.Core.Path.{_≡_, refl, ap, _∙_}
+use lib.ListN.{length, drop}
+use Rattle.slots.specs.View.{viewOf, Able}
+use Rattle.engine.specs.Engine.{fieldsOn, fullAt}
+use Rattle.stream.proofs.Loop.{At, at-start, has-room, weight, Turned, a-turn}
+use Rattle.one_by_one.proofs.Turns.{one-turn}
 use Rattle.one_by_one.proofs.take_input.Statement.{statement}
 use Rattle.one_by_one.proofs.take_input.Tie as tie
 use Rattle.one_by_one.proofs.take_input.Reads as reads
 use Rattle.one_by_one.proofs.take_input.Lts as lts
+use Rattle.base.proofs.part_from.Reads as part-from-reads
 use Rattle.base.proofs.part_to.Reads as part-to-reads
-use Rattle.buffers.proofs.keep_rest.Reads as keep-rest-reads
-use Rattle.console.proofs.take_block.Reads as take-block-reads
 use Rattle.console.proofs.waits.Reads as waits-reads
-use Rattle.one_by_one.proofs.take_fields.Reads as take-fields-reads
+use Rattle.console.proofs.write_out.Reads as write-out-reads
+use Rattle.one_by_one.proofs.take_field.Reads as take-field-reads
+use Rattle.stream.proofs.no_block.Reads as no-block-reads
+use Rattle.stream.proofs.refill.Reads as refill-reads
+use Rattle.stream.proofs.goes_on.Reads as goes-on-reads
+use Rattle.stream.proofs.told_at_end.Reads as told-at-end-reads
 
 abbrev Inv-loop : tie.InvT-loop
-Inv-loop room₀ rack₀ kept₀ code₀ more₀ reads₀ room rack kept code more reads = (length room ≡ length room₀) × Able rack × (more ≡ true → kept ≤ 18)
+Inv-loop room₀ out₀ rack₀ block₀ code₀ sent₀ more₀ room out rack block code sent more =
+    (length room ≡ length room₀) × (length out ≡ length out₀) × Able rack × At (viewOf rack₀) (viewOf rack) room block code more × (more ≡ true → sent ≡ true)
 
 abbrev μ-loop : tie.MeasureT-loop
-μ-loop room₀ rack₀ kept₀ code₀ more₀ reads₀ room rack kept code more reads = reads
+μ-loop room₀ out₀ rack₀ block₀ code₀ sent₀ more₀ room out rack block code sent more = weight block code
+
+no-block-requires : tie.Need-no-block-requires Inv-loop μ-loop
+no-block-requires c κs = search needs
 
 loop-holds : tie.Need-loop-holds Inv-loop μ-loop
-loop-holds c = (refl, c .before .pre .0, λ e. omega arith)
+loop-holds c = (refl, refl, c .before .before .before .pre .0, at-start _ _ _ (c .no-block .ensures), λ t. refl)
 
-take-block-requires : tie.Need-take-block-requires Inv-loop μ-loop
-take-block-requires c κs =
-    let l = c .before .before .before .loop in
-    omega (arith, l .inv .2 (c .before .if1 .taken), l .inv .0, c .before .before .before .before .before .pre .1)
+refill-requires : tie.Need-refill-requires Inv-loop μ-loop
+refill-requires c κs =
+    let l = c .before .before .loop in
+    has-room (rw (c .before .loop-test .taken) at (l .inv .3)) (l .inv .0 ∙ c .before .before .before .before .before .before .pre .2)
 
 part-to-requires : tie.Need-part-to-requires Inv-loop μ-loop
 part-to-requires c κs = search needs
 
-take-fields-requires : tie.Need-take-fields-requires Inv-loop μ-loop
-take-fields-requires c κs = c .before .before .before .before .before .before .before .before .loop .inv .1
+part-from-requires : tie.Need-part-from-requires Inv-loop μ-loop
+part-from-requires c κs = search needs
+
+take-field-requires : tie.Need-take-field-requires Inv-loop μ-loop
+take-field-requires c κs =
+    let l = c .before .before .before .before .before .before .before .before .before .loop in
+    let long : length (l .out) ≡ 512 = l .inv .1 ∙ c .before .before .before .before .before .before .before .before .before .before .before .before .before .pre .1 in
+    (l .inv .2, search (needs, long))
+
+part-to-requires-2 : tie.Need-part-to-requires-2 Inv-loop μ-loop
+part-to-requires-2 c κs = search needs
+
+write-out-requires : tie.Need-write-out-requires Inv-loop μ-loop
+write-out-requires c κs = search needs
+
+-- where the loop stands behind the call that was just made
+turned :
+    (m : lts.After-struct-known2 (no-block-reads.Asked, no-block-reads.Learnt, refill-reads.Asked, refill-reads.Learnt, part-to-reads.Asked, part-to-reads.Learnt, part-from-reads.Asked, part-from-reads.Learnt, take-field-reads.Asked, take-field-reads.Learnt, write-out-reads.Asked, write-out-reads.Learnt, waits-reads.Asked, waits-reads.Learnt, goes-on-reads.Asked, goes-on-reads.Learnt, told-at-end-reads.Asked, told-at-end-reads.Learnt) reads.Pre reads.Post Inv-loop μ-loop)
+    → Able (m .before .before .before .before .before .before .before .before .take-field .result .rack)
+    × Turned (viewOf (m .before .before .before .before .before .before .before .before .before .before .before .before .before .before .before .before .before .before .before .before .before .before .args .r)) (viewOf (m .before .before .before .before .before .before .before .before .take-field .result .rack)) (m .before .before .before .before .before .before .before .before .before .before .before .before .before .before .before .refill .last .0) (m .before .before .before .before .before .before .before .before .before .before .before .before .before .before .before .before .before .before .loop .block) (m .before .before .before .before .before .before .before .before .before .before .before .before .before .before .before .refill .result) (m .before .before .before .before .before .before .before .before .before .before .before .before .before .before .before .before .before .before .loop .code) (m .before .before .before .before .before .before .before .before .take-field .result .used) (m .before .before .before .before .before .before .before .before .take-field .result .code) (m .before .before .write-out .result)
+    × (length (m .before .before .before .before .before .before .before .before .before .before .before .before .before .before .before .refill .last .0) ≡ length (m .before .before .before .before .before .before .before .before .before .before .before .before .before .before .before .before .before .before .loop .room))
+turned m =
+    let l = m .before .before .before .before .before .before .before .before .before .before .before .before .before .before .before .before .before .before .loop in
+    let f = m .before .before .before .before .before .before .before .before .before .before .before .before .before .before .before .refill in
+    let t = m .before .before .before .before .before .before .before .before .take-field in
+    let d = one-turn (l .rack) _ (t .result) _ (l .inv .2) (t .ensures) in
+    let bytes = m .before .before .before .before .before .before .before .before .before .before .part-from .ensures ∙ ap (drop (f .result .from)) (m .before .before .before .before .before .before .before .before .before .before .before .part-to .ensures) in
+    let long : length (f .last .0) ≡ length (l .room) = search needs in
+    (d .small, a-turn (rw (m .before .before .before .before .before .before .before .before .before .before .before .before .before .before .before .before .before .loop-test .taken) at (l .inv .3)) (f .ensures) (long ∙ l .inv .0 ∙ m .before .before .before .before .before .before .before .before .before .before .before .before .before .before .before .before .before .before .before .before .before .before .pre .2) (viewOf (t .result .rack)) (t .result .used) (d .said) (t .result .code) (fullAt 0) (d .is ∙ ap (fieldsOn (fullAt 0) (viewOf (l .rack))) bytes) (m .before .before .write-out .result), long)
+
+add-block : tie.Need-add-block Inv-loop μ-loop
+add-block c = search (needs, turned c .1 .within)
 
 waits-requires : tie.Need-waits-requires Inv-loop μ-loop
 waits-requires c κs = search needs
 
-keep-rest-requires : tie.Need-keep-rest-requires Inv-loop μ-loop
-keep-rest-requires c κs = search needs
-
-sub-reads : tie.Need-sub-reads Inv-loop μ-loop
-sub-reads c = search needs
+goes-on-requires : tie.Need-goes-on-requires Inv-loop μ-loop
+goes-on-requires c κs = search needs
 
 loop-less : tie.Need-loop-less Inv-loop μ-loop
-loop-less c = search needs
+loop-less c = turned (c .before .before) .1 .less
 
 loop-again : tie.Need-loop-again Inv-loop μ-loop
 loop-again c =
-    let l = c .before .before .before .before .before .before .before .before .before .before .before .before .before .before .before .loop in
-    let block = c .before .before .before .before .before .before .before .before .before .before .before .take-block in
-    let worked = c .before .before .before .before .before .before .take-fields in
-    let d = rw (c .before .before .before .before .before .before .before .part-to .ensures) at (worked .ensures) in
-    (search needs, d .small, λ t. rest-short (l .rack) _ (worked .result) d _ (c .before .before .keep-rest .ensures .count) (ltb (l .kept) (block .result)) (rw (c .before .before .before .before .waits .ensures) at t))
+    let l = c .before .before .before .before .before .before .before .before .before .before .before .before .before .before .before .before .before .before .before .before .loop in
+    let z = turned (c .before .before) in
+    (z .2 ∙ l .inv .0, search needs, z .0, rw (c .goes-on .ensures, c .before .waits .ensures) (z .1 .at), rw (c .goes-on .ensures, c .before .waits .ensures) (z .1 .sends))
+
+told-at-end-requires : tie.Need-told-at-end-requires Inv-loop μ-loop
+told-at-end-requires c κs = search needs
 
 same-length : tie.Need-same-length Inv-loop μ-loop
 same-length c = search needs
 
-returns : tie.Need-returns Inv-loop μ-loop
-returns c = search needs
-
 same-length-2 : tie.Need-same-length-2 Inv-loop μ-loop
 same-length-2 c = search needs
 
-returns-2 : tie.Need-returns-2 Inv-loop μ-loop
-returns-2 c = search needs
+returns : tie.Need-returns Inv-loop μ-loop
+returns c = search needs
 
 pub take-input-spec : {M : Type 1} → statement M
 take-input-spec =
@@ -76,16 +109,20 @@ take-input-spec =
     (tie.spec
     Inv-loop
     μ-loop
+    no-block-requires
     loop-holds
-    take-block-requires
+    refill-requires
     part-to-requires
-    take-fields-requires
+    part-from-requires
+    take-field-requires
+    part-to-requires-2
+    write-out-requires
+    add-block
     waits-requires
-    keep-rest-requires
-    sub-reads
+    goes-on-requires
     loop-less
     loop-again
+    told-at-end-requires
     same-length
-    returns
     same-length-2
-    returns-2)
+    returns)

@@ -1,12 +1,12 @@
 -- `refill` meets its contract: bytes that are left are moved to the start, and what is read goes behind them.
 use mathlib.Core.Path.{refl}
 use denote.Ref.{now}
-use Rattle.controller.proofs.Pieces.{read-behind}
+use Rattle.stream.proofs.Blocks.{read-behind}
 use borrow.Author.Needs.{needs}
-use Rattle.controller.proofs.refill.Statement.{statement}
-use Rattle.controller.proofs.refill.Tie as tie
-use Rattle.controller.proofs.refill.Reads as reads
-use Rattle.controller.proofs.refill.Lts as lts
+use Rattle.stream.proofs.refill.Statement.{statement}
+use Rattle.stream.proofs.refill.Tie as tie
+use Rattle.stream.proofs.refill.Reads as reads
+use Rattle.stream.proofs.refill.Lts as lts
 use Rattle.buffers.proofs.keep_rest.Reads as keep-rest-reads
 use Rattle.console.proofs.take_block.Reads as take-block-reads
 
@@ -25,8 +25,8 @@ take-block-requires c κs =
 
 sub-t11 : tie.Need-sub-t11
 sub-t11 c =
-    let start = c .before .before .before .before .before .before .before .before .before .before .before in
-    let h = start .pre (c .before .before .before .before .before .before .before .before .before .if1 .left) .1 in
+    let start = c .before .before .before .before .before .before .before .before .before .before .before .before in
+    let h = start .pre (c .before .before .before .before .before .before .before .before .before .before .if1 .left) .1 in
     search (needs, h)
 
 same-length : tie.Need-same-length
@@ -34,10 +34,12 @@ same-length c = search needs
 
 returns-2 : tie.Need-returns-2
 returns-2 c =
-    let start = c .before .before .before .before .before .before .before .before .before .before .before in
-    let z = c .before .before .before .before .before .before .before .before .before .if1 .left in
-    let block = c .before .before .before .take-block in
-    (λ e. absurd (z e), λ e. read-behind (now (start .args .room)) _ _ (start .args .b) _ (block .result) (c .before .before .before .before .before .before .before .keep-rest .ensures) (block .ensures .0) (block .ensures .1) (block .ensures .2))
+    let start = c .before .before .before .before .before .before .before .before .before .before .before .before in
+    let z = c .before .before .before .before .before .before .before .before .before .before .if1 .left in
+    let got = c .before .before .before .before .take-block in (
+      λ e. absurd (z e),
+      λ e. read-behind (now (start .args .room)) _ _ (start .args .b) _ (got .result .count) (got .result .failed) (c .before .before .before .before .before .before .before .before .keep-rest .ensures) (got .ensures .0 .0) (got .ensures .0 .1) (got .ensures .0 .2) (got .ensures .1),
+    )
 
 pub refill-spec : {M : Type 1} → statement M
 refill-spec =
