@@ -3,6 +3,7 @@
 
 pub mod cases;
 pub mod compare;
+pub mod faults;
 pub mod generate;
 pub mod line;
 pub mod live;
@@ -13,6 +14,7 @@ pub mod rack;
 pub mod script;
 pub mod share;
 pub mod supply;
+pub mod system;
 pub mod table;
 pub mod trial;
 pub mod trials;

@@ -2,7 +2,7 @@
 //! every wait, so that a program that keeps its replies back does not hold up the one who waits.
 
 use std::io::{ErrorKind, Read, Write};
-use std::process::{Child, ChildStdin, ExitStatus};
+use std::process::{Child, ExitStatus};
 use std::sync::mpsc::{channel, Receiver, RecvTimeoutError};
 use std::time::{Duration, Instant};
 
@@ -13,7 +13,7 @@ pub const PATIENCE: Duration = Duration::from_secs(10);
 
 pub struct Live {
     child: Child,
-    input: Option<ChildStdin>,
+    input: Option<Box<dyn Write + Send>>,
     /// What was printed, piece by piece; the sender is gone once the output has ended.
     pieces: Receiver<Vec<u8>>,
     /// Printed, and not asked for yet.
@@ -24,8 +24,17 @@ pub struct Live {
 impl Live {
     pub fn start(program: &str) -> Result<Live, String> {
         let mut child = outside::start(program)?;
-        let input = child.stdin.take();
-        let mut output = child.stdout.take().ok_or("no standard output")?;
+        let input = child.stdin.take().ok_or("no standard input")?;
+        let output = child.stdout.take().ok_or("no standard output")?;
+        Ok(Live::between(child, input, output))
+    }
+
+    /// A program that is running already, with the near ends of its input and output.
+    pub fn between(
+        child: Child,
+        input: impl Write + Send + 'static,
+        mut output: impl Read + Send + 'static,
+    ) -> Live {
         let (sender, pieces) = channel();
         std::thread::spawn(move || {
             let mut block = [0; 4096];
@@ -35,13 +44,24 @@ impl Live {
                 }
             }
         });
-        Ok(Live { child, input, pieces, ahead: Vec::new(), ended: false })
+        let input: Option<Box<dyn Write + Send>> = Some(Box::new(input));
+        Live { child, input, pieces, ahead: Vec::new(), ended: false }
+    }
+
+    /// The number of its process.
+    pub fn process(&self) -> u32 {
+        self.child.id()
     }
 
     /// Sends one byte; false if the program reads no more.
     pub fn send(&mut self, byte: u8) -> Result<bool, String> {
+        self.send_piece(&[byte])
+    }
+
+    /// Sends some bytes at once; false if the program reads no more.
+    pub fn send_piece(&mut self, piece: &[u8]) -> Result<bool, String> {
         let pipe = self.input.as_mut().ok_or("the input is closed already")?;
-        match pipe.write_all(&[byte]).and_then(|()| pipe.flush()) {
+        match pipe.write_all(piece).and_then(|()| pipe.flush()) {
             Ok(()) => Ok(true),
             Err(error) if error.kind() == ErrorKind::BrokenPipe => Ok(false),
             Err(error) => Err(error.to_string()),
