@@ -7,6 +7,7 @@ use std::sync::mpsc::{channel, Receiver, RecvTimeoutError};
 use std::time::{Duration, Instant};
 
 use crate::outside;
+use crate::program::Running;
 
 /// A reply that has not come by then is taken to be kept back.
 pub const PATIENCE: Duration = Duration::from_secs(10);
@@ -108,6 +109,16 @@ impl Live {
             true => Err("the output ended too early".into()),
             false => Ok(()),
         }
+    }
+
+    /// Ends the input, after which what the model prints must come, and the end of the program.
+    pub fn finish(&mut self, model: &mut Running) -> Result<(), String> {
+        let mut rest = Vec::new();
+        model.take(&[], &mut rest);
+        self.close();
+        self.expect(&rest)
+            .and_then(|()| self.expect_end())
+            .map_err(|what| format!("at the end, {what}"))
     }
 
     /// The program must end soon, without a further byte and without breaking down.

@@ -1,14 +1,17 @@
 // What the programs read from standard input and write to standard output, whatever read and write return: a call that a signal
 // interrupts, or that would have to wait, is made again; one that fails for good is a fault, which is reported on standard error.
 ghost use mathlib.Core.Path.{_≡_};
-ghost use mathlib.Core.Bool.{true, _||_};
+ghost use mathlib.Core.Bool.{true};
 ghost use mathlib.Core.List.{[], _∷_, _++_};
-ghost use lib.Dec.{eqb};
 ghost use Prim.Native.Nat.{_+_, _≤_, _<_};
 ghost use lib.ListN.{length, take};
+ghost use lib.IntN.{pos};
+ghost use lib.Signed.{ltZ};
 ghost use Rattle.base.specs.Put.{Put};
 ghost use Rattle.base.specs.Text.{codes};
+ghost use Rattle.io.specs.Counts.{clamped};
 ghost use Rattle.prints.specs.Figure.{figure};
+ghost use Rattle.console.specs.Mendable.{mendable};
 use libc::STDERR_FILENO;
 use libc::STDIN_FILENO;
 use libc::STDOUT_FILENO;
@@ -33,7 +36,7 @@ pub fn buffer() -> [u8; 8192]
 
 // A refusal that the bytes to come may mend: the field is cut off, and may be waiting for them.
 pub fn waits(code: u8) -> bool
-    ensures { λ r. ⌜ r ≡ (eqb code 2 || eqb code 5) ⌝ }
+    ensures { λ r. ⌜ r ≡ mendable code ⌝ }
 {
     (code == 2) | (code == 5)
 }
@@ -85,17 +88,18 @@ fn again_after(got: isize) -> bool {
 
 // What the last read came to.
 fn got_by(got: isize, buf: &[u8]) -> Got
+    ensures { λ g. ⌜ (g .count ≡ clamped got (length (now (buf .entry)))) × (ltZ got (pos 0) ≡ true → g .failed ≡ true) ⌝ }
     ensures { λ g. ⌜ (g .count ≤ length (now (buf .entry))) × (g .failed ≡ true → g .count ≡ 0) ⌝ }
 {
-    if got <= 0 {
-        let failed = got < 0 || hung_up();
-        return Got { count: 0, failed };
-    }
     let count = io::count(got, buf);
-    Got {
-        count,
-        failed: false,
+    if 0 < count {
+        return Got {
+            count,
+            failed: false,
+        };
     }
+    let failed = got < 0 || hung_up();
+    Got { count, failed }
 }
 
 // Reads until bytes come, the input is at its end or a read fails for good.

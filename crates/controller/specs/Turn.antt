@@ -3,11 +3,10 @@
 -- written, is not said here.
 use Prim.Native.Nat.{ℕ}
 use mathlib.Core.Path.{_≡_}
-use mathlib.Core.Bool.{_||_}
 use mathlib.Core.List.{List, map}
-use lib.Dec.{eqb}
 use lib.ListN.{length, take, drop}
 use Rattle.buffers.specs.Printed.{printed}
+use Rattle.console.specs.Mendable.{mendable}
 use Rattle.slots.specs.declared.Rack.{Rack}
 use Rattle.slots.specs.View.{viewOf, Able}
 use Rattle.engine.specs.Engine.{ran, fieldsOn, fullAt}
@@ -22,4 +21,4 @@ pub record TurnDoes (r : Rack) (s b : List ℕ) (t : Turned) (b′ : List ℕ) :
   pub handed : take (t .length) b′ ≡ map (printed 10) said
   pub behind : drop (t .length) b′ ≡ drop (t .length) b
   -- to read on: the field that was refused may be waiting for its other bytes
-  pub reads-on : t .«reads_on» ≡ (eqb (t .code) 2 || eqb (t .code) 5)
+  pub reads-on : t .«reads_on» ≡ mendable (t .code)

@@ -66,13 +66,13 @@ fn try_short(r: Rack, s: &[u8]) -> Tried
 }
 
 // Nothing that is proved leads here; the machine code is tried all the same. No list draws refusal 1.
-fn say_wrong(r: Rack) -> Answer {
-    console::write_out(b"wrong\n");
+fn put_wrong(r: Rack, out: &mut [u8]) -> Answer {
+    let length = base::put_text(out, 0, b"wrong\n");
     Answer {
         code: 1,
         rack: r,
         used: 0,
-        length: 0,
+        length,
     }
 }
 
@@ -88,7 +88,7 @@ fn take_field(r: Rack, s: &[u8], out: &mut [u8]) -> Answer
     let a = rack::call(same, s, out);
     let n = a.length;
     if !(tried.right & unwritten(out, n)) {
-        return say_wrong(same);
+        return put_wrong(same, out);
     }
     buffers::end_lines(out, n, LF);
     a

@@ -16,6 +16,7 @@ use Rattle.wire.specs.Rack as wire
 use Rattle.supply.specs.declared.Supply.{Supply}
 use Rattle.engine.specs.Engine.{ran, fieldsOn}
 use Rattle.engine.proofs.Turns.{turn-within, turn-spends, turn-all, all-ended}
+use Rattle.console.specs.Mendable.{mendable}
 use Rattle.cuts.specs.Cuts.{Waits}
 use Rattle.cuts.proofs.Cuts.{waits-is, waiting-short}
 use Rattle.stream.specs.declared.Block.{Block}
@@ -78,10 +79,6 @@ module _ {v q : wire.Rack Supply} {room room′ : List ℕ} {b n : Block} {code 
 abbrev pub past : Block → ℕ → Block
 past n k = record { from = n .from + k; end = n .end; brought = n .brought; failed = n .failed; reads = n .reads }
 
--- a refusal that bytes to come may mend
-abbrev pub mendable : ℕ → Bool
-mendable code = eqb code 2 || eqb code 5
-
 goes-by : (sent : Bool) (code : ℕ) (n : Block) → goesOn sent code (mendable code) n ≡ true → (code ≡ 0 → ⊥) → Waits code × (0 < n .reads)
 goes-by sent code n t z =
     let either = and-both sent _ t .1 in
@@ -113,7 +110,7 @@ weighs-less b n code k after low high some same fewer within spends = by-code co
     less z false = omega (arith, some z, fewer z, high)
 
 -- A TURN MORE: what refill and the turn behind it leave
-pub record Turned (v p : wire.Rack Supply) (room : List ℕ) (b n : Block) (code k after : ℕ) (sent : Bool) : Type 0 where
+pub record OneTurn (v p : wire.Rack Supply) (room : List ℕ) (b n : Block) (code k after : ℕ) (sent : Bool) : Type 0 where
   pub within : n .from + k ≤ n .end
   pub less : weight (past n k) after < weight b code
   pub at : At v p room (past n k) after (goesOn sent after (mendable after) (past n k))
@@ -139,7 +136,7 @@ module _ {v q : wire.Rack Supply} {room room′ : List ℕ} {b n : Block} {code 
   short : (after ≡ 0 → ⊥) → Waits after → length (unworked room′ (past n k)) ≤ 18
   short z w = rw left (waiting-short p (drop k s) after (all-ended s [] q p k said after (turn-all s [] q p k said after stop e z)) w)
 
-  pub a-turn : (sent : Bool) → Turned v p room′ b n code k after sent
+  pub a-turn : (sent : Bool) → OneTurn v p room′ b n code k after sent
   a-turn sent =
       record {
         within = inside;

@@ -217,12 +217,7 @@ fn talk(live: &mut Live, list: &List) -> Result<(), String> {
             return live.expect_end().map_err(at_byte(at));
         }
     }
-    let mut rest = Vec::new();
-    model.take(&[], &mut rest);
-    live.close();
-    live.expect(&rest)
-        .and_then(|()| live.expect_end())
-        .map_err(|what| format!("at the end, {what}"))
+    live.finish(&mut model)
 }
 
 fn still_open(open: bool) -> Result<(), String> {

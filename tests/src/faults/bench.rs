@@ -153,16 +153,6 @@ pub fn talk<'a>(
     Ok(())
 }
 
-/// Ends the input, after which what the model prints must come, and the end of the program.
-pub fn finish(live: &mut Live, model: &mut Running) -> Result<(), String> {
-    let mut rest = Vec::new();
-    model.take(&[], &mut rest);
-    live.close();
-    live.expect(&rest)
-        .and_then(|()| live.expect_end())
-        .map_err(|what| format!("at the end, {what}"))
-}
-
 /// Bytes as a message shows them, which need not be all.
 pub fn shown(bytes: &[u8]) -> String {
     const MOST: usize = 200;

@@ -8,7 +8,9 @@ use std::thread::sleep;
 use std::time::{Duration, Instant};
 
 use super::bench::{complaint, list, talk, Bench, Said};
-use super::waiting::{computes_nothing, inputs, pieces, reply_soon, start, PAUSE, WHOLE};
+use super::waiting::{
+    computes_nothing, ends_by_a_refusal, inputs, pieces, reply_soon, start, PAUSE, WHOLE,
+};
 use super::Case;
 use crate::live::{Live, PATIENCE};
 use crate::program::Running;
@@ -177,9 +179,5 @@ fn both_ways(bench: &Bench, mode: Mode) -> Result<(), String> {
     let (mut command, said) = bench.command(&[])?;
     command.stdin(far.try_clone().map_err(wrong)?).stdout(far);
     let reader = near.try_clone().map_err(wrong)?;
-    let mut live = Live::between(start(command)?, near, reader);
-    let input = [&list(WHOLE), &b"\x09\x00\x00"[..]].concat();
-    talk(&mut live, &mut Running::default(), pieces(&input), PAUSE)?;
-    live.expect_end()?;
-    said.expect("")
+    ends_by_a_refusal(Live::between(start(command)?, near, reader), &said)
 }

@@ -8,7 +8,7 @@ use std::process::{Child, Command, Stdio};
 use std::thread::sleep;
 use std::time::{Duration, Instant};
 
-use super::bench::{finish, list, talk, Bench, Said};
+use super::bench::{list, talk, Bench, Said};
 use super::Case;
 use crate::generate::Draw;
 use crate::live::Live;
@@ -102,7 +102,7 @@ fn slow_writer(bench: &Bench, input: &[u8]) -> Result<(), String> {
     let (mut live, said) = dry(bench)?;
     let mut model = Running::default();
     talk(&mut live, &mut model, pieces(input), PAUSE)?;
-    finish(&mut live, &mut model)?;
+    live.finish(&mut model)?;
     said.expect("")
 }
 
@@ -114,7 +114,12 @@ fn socket(bench: &Bench) -> Result<(), String> {
     let (mut command, said) = bench.command(&[])?;
     command.stdin(OwnedFd::from(far.try_clone().map_err(wrong)?)).stdout(OwnedFd::from(far));
     let reader = near.try_clone().map_err(wrong)?;
-    let mut live = Live::between(start(command)?, near, reader);
+    ends_by_a_refusal(Live::between(start(command)?, near, reader), &said)
+}
+
+/// A list with a field at its end that is refused, so that the program ends though nobody closes its
+/// input.
+pub fn ends_by_a_refusal(mut live: Live, said: &Said) -> Result<(), String> {
     let input = [&list(WHOLE), &b"\x09\x00\x00"[..]].concat();
     talk(&mut live, &mut Running::default(), pieces(&input), PAUSE)?;
     live.expect_end()?;
@@ -131,7 +136,7 @@ fn stopped(bench: &Bench) -> Result<(), String> {
         send_signal(live.process(), SIGCONT).map_err(|error| error.to_string())?;
         talk(&mut live, &mut model, pieces(part), PAUSE)?;
     }
-    finish(&mut live, &mut model)?;
+    live.finish(&mut model)?;
     said.expect("")
 }
 
@@ -156,7 +161,7 @@ fn soon(bench: &Bench) -> Result<(), String> {
     let mut model = Running::default();
     talk(&mut live, &mut model, pieces(&list(WHOLE)), PAUSE)?;
     reply_soon(&mut live, &mut model)?;
-    finish(&mut live, &mut model)?;
+    live.finish(&mut model)?;
     said.expect("")
 }
 
@@ -182,6 +187,6 @@ fn idle(bench: &Bench, bytes: usize) -> Result<(), String> {
     live.expect_nothing(PAUSE)?;
     computes_nothing(live.process())?;
     talk(&mut live, &mut model, pieces(rest), PAUSE)?;
-    finish(&mut live, &mut model)?;
+    live.finish(&mut model)?;
     said.expect("")
 }

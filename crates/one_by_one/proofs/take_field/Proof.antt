@@ -10,7 +10,7 @@ use Rattle.one_by_one.proofs.take_field.Lts as lts
 use Rattle.buffers.proofs.end_lines.Reads as end-lines-reads
 use Rattle.calls.proofs.call.Reads as call-reads
 use Rattle.one_by_one.proofs.fill.Reads as fill-reads
-use Rattle.one_by_one.proofs.say_wrong.Reads as say-wrong-reads
+use Rattle.one_by_one.proofs.put_wrong.Reads as put-wrong-reads
 use Rattle.one_by_one.proofs.try_short.Reads as try-short-reads
 use Rattle.one_by_one.proofs.unwritten.Reads as unwritten-reads
 
@@ -26,21 +26,21 @@ call-requires c κs = search needs
 unwritten-requires : tie.Need-unwritten-requires
 unwritten-requires c κs = search needs
 
-say-wrong-requires : tie.Need-say-wrong-requires
-say-wrong-requires c κs = search needs
+put-wrong-requires : tie.Need-put-wrong-requires
+put-wrong-requires c κs = search needs
 
 same-length : tie.Need-same-length
 same-length c = search needs
 
 returns : tie.Need-returns
 returns c =
-    let start = c .before .before .before .before .before .before .before .before .before .before .before .before .before .before .before .before .before in
-    let t = c .before .before .before .before .before .before .before .before .before .before .before .before .before .before .try-short in
-    let b = c .before .before .before .before .before .before .before .before .before .before .before .fill .last .0 in
-    let f = c .before .before .before .before .before .before .before .before .before .before .before .fill .ensures in
-    let a = c .before .before .before .before .before .before .before .call in
-    let u = c .before .before .before .unwritten in
-    absurd (never-wrong (start .args .r) (now (start .args .s)) (t .result) b (a .result) (a .last .1 .1 .0) (t .ensures) (f .0 ∙ start .pre .1) (a .ensures) (start .pre .0) (f .1) (u .result) (u .ensures .1) (c .before .if1 .taken))
+    let start = c .before .before .before .before .before .before .before .before .before .before .before .before .before .before .before .before .before .before .before .before in
+    let t = c .before .before .before .before .before .before .before .before .before .before .before .before .before .before .before .before .before .try-short in
+    let b = c .before .before .before .before .before .before .before .before .before .before .before .before .before .before .fill .last .0 in
+    let f = c .before .before .before .before .before .before .before .before .before .before .before .before .before .before .fill .ensures in
+    let a = c .before .before .before .before .before .before .before .before .before .before .call in
+    let u = c .before .before .before .before .before .before .unwritten in
+    absurd (never-wrong (start .args .r) (now (start .args .s)) (t .result) b (a .result) (a .last .1 .1 .0) (t .ensures) (f .0 ∙ start .pre .1) (a .ensures) (start .pre .0) (f .1) (u .result) (u .ensures .1) (c .before .before .before .before .if1 .taken))
 
 end-lines-requires : tie.Need-end-lines-requires
 end-lines-requires c κs = search needs
@@ -65,7 +65,7 @@ take-field-spec =
     fill-requires
     call-requires
     unwritten-requires
-    say-wrong-requires
+    put-wrong-requires
     same-length
     returns
     end-lines-requires

@@ -6,7 +6,7 @@ use mathlib.Core.Path.{_≡_, refl, ap, _∙_}
 use lib.ListN.{length, drop}
 use Rattle.slots.specs.View.{viewOf, Able}
 use Rattle.engine.specs.Engine.{fieldsOn, fullAt}
-use Rattle.stream.proofs.Loop.{At, at-start, has-room, weight, Turned, a-turn}
+use Rattle.stream.proofs.Loop.{At, at-start, has-room, weight, OneTurn, a-turn}
 use Rattle.one_by_one.proofs.Turns.{one-turn}
 use Rattle.one_by_one.proofs.take_input.Statement.{statement}
 use Rattle.one_by_one.proofs.take_input.Tie as tie
@@ -62,7 +62,7 @@ write-out-requires c κs = search needs
 turned :
     (m : lts.After-struct-known2 (no-block-reads.Asked, no-block-reads.Learnt, refill-reads.Asked, refill-reads.Learnt, part-to-reads.Asked, part-to-reads.Learnt, part-from-reads.Asked, part-from-reads.Learnt, take-field-reads.Asked, take-field-reads.Learnt, write-out-reads.Asked, write-out-reads.Learnt, waits-reads.Asked, waits-reads.Learnt, goes-on-reads.Asked, goes-on-reads.Learnt, told-at-end-reads.Asked, told-at-end-reads.Learnt) reads.Pre reads.Post Inv-loop μ-loop)
     → Able (m .before .before .before .before .before .before .before .before .take-field .result .rack)
-    × Turned (viewOf (m .before .before .before .before .before .before .before .before .before .before .before .before .before .before .before .before .before .before .before .before .before .before .args .r)) (viewOf (m .before .before .before .before .before .before .before .before .take-field .result .rack)) (m .before .before .before .before .before .before .before .before .before .before .before .before .before .before .before .refill .last .0) (m .before .before .before .before .before .before .before .before .before .before .before .before .before .before .before .before .before .before .loop .block) (m .before .before .before .before .before .before .before .before .before .before .before .before .before .before .before .refill .result) (m .before .before .before .before .before .before .before .before .before .before .before .before .before .before .before .before .before .before .loop .code) (m .before .before .before .before .before .before .before .before .take-field .result .used) (m .before .before .before .before .before .before .before .before .take-field .result .code) (m .before .before .write-out .result)
+    × OneTurn (viewOf (m .before .before .before .before .before .before .before .before .before .before .before .before .before .before .before .before .before .before .before .before .before .before .args .r)) (viewOf (m .before .before .before .before .before .before .before .before .take-field .result .rack)) (m .before .before .before .before .before .before .before .before .before .before .before .before .before .before .before .refill .last .0) (m .before .before .before .before .before .before .before .before .before .before .before .before .before .before .before .before .before .before .loop .block) (m .before .before .before .before .before .before .before .before .before .before .before .before .before .before .before .refill .result) (m .before .before .before .before .before .before .before .before .before .before .before .before .before .before .before .before .before .before .loop .code) (m .before .before .before .before .before .before .before .before .take-field .result .used) (m .before .before .before .before .before .before .before .before .take-field .result .code) (m .before .before .write-out .result)
     × (length (m .before .before .before .before .before .before .before .before .before .before .before .before .before .before .before .refill .last .0) ≡ length (m .before .before .before .before .before .before .before .before .before .before .before .before .before .before .before .before .before .before .loop .room))
 turned m =
     let l = m .before .before .before .before .before .before .before .before .before .before .before .before .before .before .before .before .before .before .loop in

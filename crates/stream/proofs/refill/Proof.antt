@@ -1,6 +1,8 @@
 -- `refill` meets its contract: bytes that are left are moved to the start, and what is read goes behind them.
-use mathlib.Core.Path.{refl}
+use mathlib.Core.Path.{_≡_, refl}
 use denote.Ref.{now}
+use lib.ListN.{length}
+use Rattle.stream.specs.Stream.{unworked}
 use Rattle.stream.proofs.Blocks.{read-behind}
 use borrow.Author.Needs.{needs}
 use Rattle.stream.proofs.refill.Statement.{statement}
@@ -21,7 +23,8 @@ take-block-requires c κs =
     let start = c .before .before .before .before .before .before .before in
     let k = c .before .before .before .keep-rest in
     let h = start .pre (c .before .before .before .before .before .if1 .left) .0 in
-    search (needs, h, k .ensures .count)
+    let count : k .result ≡ length (unworked (now (start .args .room)) (start .args .b)) = k .ensures .count in
+    search (needs, h, count)
 
 sub-t11 : tie.Need-sub-t11
 sub-t11 c =
