@@ -3,21 +3,23 @@
 use mathlib.Core.Path.{_≡_, refl, sym, _∙_}
 use mathlib.Core.Bool.{Bool, true, false}
 use Prim.Native.Nat.{ℕ, _%_}
+use lib.Dec.{eqb}
 use borrow.Author.Tests.{eq-eqb, ne-eqb}
+use Rattle.base.specs.Choice.{pick}
 use Rattle.base.proofs.Choice.{pick-true, pick-false}
 use Rattle.supply.specs.declared.Supply.{Supply}
 use Rattle.supply.specs.declared.Target.{Target}
 use Rattle.supply.specs.declared.Target.the-variants.{Pv, Pc, Ovp, Uvl}
 use Rattle.supply.specs.declared.Order.{Order}
-use Rattle.supply.specs.declared.Order.the-variants.{Set}
+use Rattle.supply.specs.declared.Order.the-variants.{Set, Ovm, Out, Fld, Ast, Rmt, Fena, Cls, Rst}
 use Rattle.supply.specs.declared.Query.{Query}
 use Rattle.supply.specs.declared.Act.the-variants.{Obey, Ask}
-use Rattle.supply.specs.Flt.{fltOf}
+use Rattle.supply.specs.Flt.{fltOf, settled}
 use Rattle.supply.proofs.Gains.{settled-idle}
 use Rattle.settings.specs.Settings.{withSetting}
 use Rattle.codes.specs.Codes.{orderCode}
 use Rattle.codes.proofs.Accepted.{set-low}
-use Rattle.orders.specs.Orders.{remote, remoteBy, ordered}
+use Rattle.orders.specs.Orders.{remote, remoteBy, ordered, afterOrder}
 use Rattle.acts.specs.Acts.{codeOf, clearingQuery, clearingOrder, clearingAct, cleared, acted, performed}
 
 -- a setting, and MODE beside it, show in no bit of FLT
@@ -35,6 +37,29 @@ cleared-flt true s = refl
 cleared-flt false s = refl
 
 module _ (m : ℕ) (s : Supply) where
+  -- no order that clears FEVE is ever refused
+  refused-keeps : (o : Order) → eqb (orderCode m s o) 0 ≡ false → clearingOrder o ≡ false
+  unfolding clearingOrder orderCode
+  refused-keeps Cls e = e
+  refused-keeps Rst e = e
+  refused-keeps (Set t n) e = refl
+  refused-keeps Ovm e = refl
+  refused-keeps (Out b) e = refl
+  refused-keeps (Fld b) e = refl
+  refused-keeps (Ast b) e = refl
+  refused-keeps (Rmt k) e = refl
+  refused-keeps (Fena b) e = refl
+
+  -- an order judged and carried out goes through the later stages, refused or not: a refused one gains and clears nothing
+  pub order-closed : (o : Order) → cleared (clearingOrder o) (settled s (afterOrder m s o)) ≡ performed m s (Obey o)
+  unfolding performed codeOf acted clearingAct afterOrder
+  order-closed o = byCode (eqb (orderCode m s o) 0) refl
+    where
+      byCode : (b : Bool) → eqb (orderCode m s o) 0 ≡ b
+          → cleared (clearingOrder o) (settled s (pick b (ordered m s o) s)) ≡ pick b (cleared (clearingOrder o) (settled s (ordered m s o))) s
+      byCode true e = refl
+      byCode false e = rw (refused-keeps o e) (settled-idle s s refl)
+
   -- what is refused changes nothing
   pub refused : (o : Order) {k : ℕ} → k ≡ orderCode m s o → (k ≡ 0 → ⊥) → s ≡ performed m s (Obey o)
   unfolding performed codeOf

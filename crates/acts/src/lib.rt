@@ -92,14 +92,11 @@ pub fn obey_order(model: u8, s: Supply, o: Order) -> Outcome
     if let Order::Set(t, n) = o {
         return obey_set(model, s, t, n);
     }
-    let code = codes::order_code(model, s, o);
-    if code != 0 {
-        return Outcome { code, supply: s };
-    }
-    let done = supply::settle(s, orders::order_done(model, s, o));
+    let done = orders::order_done(model, s, o);
+    let settled = supply::settle(s, done.supply);
     Outcome {
-        code,
-        supply: clear_feve(done, order_clears(o)),
+        code: done.code,
+        supply: clear_feve(settled, order_clears(o)),
     }
 }
 

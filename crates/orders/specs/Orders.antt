@@ -1,4 +1,4 @@
--- What an accepted order does.
+-- What an order does.
 use Prim.Native.Nat.{ℕ}
 use mathlib.Core.Bool.{Bool, true, false}
 use lib.Dec.{eqb}
@@ -12,6 +12,7 @@ use Rattle.supply.specs.declared.Order.the-variants.{Set, Ovm, Out, Fld, Ast, R
 use Rattle.supply.specs.With.{withOvp, withWant, withArmed, withAst, withMode, withLines, withFena, withCounts}
 use Rattle.supply.specs.State.{fresh}
 use Rattle.settings.specs.Settings.{withSetting}
+use Rattle.codes.specs.Codes.{orderCode}
 use Rattle.events.specs.Events.{turnedOn, disarmed}
 
 -- taking remote control: MODE 0 becomes 1
@@ -49,3 +50,7 @@ ordered m s (Rmt k) = withMode k s
 ordered m s (Fena b) = withFena b s
 ordered m s Cls = s
 ordered m s Rst = reset m s
+
+-- an order judged and, where it is accepted, carried out; a refused one changes nothing
+unfoldable pub afterOrder : ℕ → Supply → Order → Supply
+afterOrder m s o = pick (eqb (orderCode m s o) 0) (ordered m s o) s

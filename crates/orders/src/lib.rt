@@ -1,4 +1,4 @@
-// What an accepted order does to a supply.
+// What an order does to a supply: its code, and where it is accepted what it changes.
 ghost use mathlib.Core.Path.{_≡_};
 ghost use lib.Dec.{eqb};
 ghost use Rattle.base.specs.Choice.{pick};
@@ -6,8 +6,9 @@ ghost use Rattle.models.specs.Models.{limitsOf};
 ghost use Rattle.supply.specs.With.{withOvp, withAst, withMode, withFena};
 ghost use Rattle.settings.specs.Settings.{withSetting};
 ghost use Rattle.codes.specs.Codes.{orderCode};
-ghost use Rattle.orders.specs.Orders.{remote, remoteBy, outDone, fldDone, reset, ordered};
+ghost use Rattle.orders.specs.Orders.{remote, remoteBy, outDone, fldDone, reset, ordered, afterOrder};
 use supply::Order;
+use supply::Outcome;
 use supply::Supply;
 use supply::Target;
 
@@ -125,10 +126,10 @@ fn put_fena(s: Supply, b: u8) -> Supply
     t
 }
 
-// What an accepted order does; of a refused one the answer is free, and nobody asks.
-// An accepted figure has 32 bits at most, so its low 32 bits are all of it.
-pub fn order_done(model: u8, s: Supply, o: Order) -> Supply
-    ensures { λ r. ⌜ (orderCode model s o ≡ 0 → r ≡ ordered model s o) ⌝ }
+// What an accepted order does. Its figure, if it has one, fits 32 bits: the low 32 bits are all of it.
+fn carried_out(model: u8, s: Supply, o: Order) -> Supply
+    requires { ⌜ orderCode model s o ≡ 0 ⌝ }
+    ensures { λ r. ⌜ r ≡ ordered model s o ⌝ }
 {
     match o {
         Order::Set(t, n) => put_setting(s, t, (n % 0x1_0000_0000) as u32),
@@ -140,5 +141,19 @@ pub fn order_done(model: u8, s: Supply, o: Order) -> Supply
         Order::Fena(b) => put_fena(s, b),
         Order::Cls => s,
         Order::Rst => reset_supply(model, s),
+    }
+}
+
+// An order judged and, where it is accepted, carried out: its code, and the supply after it.
+pub fn order_done(model: u8, s: Supply, o: Order) -> Outcome
+    ensures { λ r. ⌜ (r .code ≡ orderCode model s o) × (r .supply ≡ afterOrder model s o) ⌝ }
+{
+    let code = codes::order_code(model, s, o);
+    if code != 0 {
+        return Outcome { code, supply: s };
+    }
+    Outcome {
+        code,
+        supply: carried_out(model, s, o),
     }
 }
