@@ -29,54 +29,18 @@ use Rattle.codes.specs.Codes.{above105, setCode, orderCode}
 use Rattle.orders.specs.Orders.{remote, remoteBy, outDone, fldDone, reset, ordered}
 use Rattle.acts.specs.Acts.{codeOf, clearingQuery, clearingAct, cleared, acted, closed, performed}
 use Rattle.settings.specs.Lawful.{Kept, Lawful, Admissible}
-use Rattle.settings.proofs.Knob.{ceiling-le, from-range, stepped-nearest}
+use Rattle.settings.proofs.Knob.{within, from-range, stepped-nearest}
+use Rattle.codes.proofs.Accepted.{accepted-range}
 
 pub fresh-lawful : (m : ℕ) → Lawful m (fresh m)
 unfolding fresh
 fresh-lawful m =
-    record {
-      uvl-margin = omega arith;
-      ovp-margin = omega arith;
-      pv-limit = omega arith;
-      pc-limit = omega arith;
-      ovp-least = ovp-room m;
-      ovp-most = omega arith;
-      uvl-most = omega arith;
-    }
+    within (limitsOf m) 0 0 (limitsOf m .«ovp_most») 0 (omega arith) (omega arith) (omega arith) (omega arith) (ovp-room m) (omega arith) (omega arith)
 
 module _ (l : Limits) (s : Supply) where
-  -- the checks of a figure let through what lies between the least and the most value, on any supply
-  pub accepted-range : (t : Target) (n : ℕ) → setCode l s t n ≡ 0 → (leastOf l s t ≤ n) × (n ≤ mostOf l s t)
-  unfolding setCode leastOf mostOf
-  accepted-range Pv n e =
-      let a = passed (above105 (l .volts) n) 196 _ e in
-      let b = passed (ltb (20 * s .ovp) (21 * n)) 224 _ (a .1) in
-      let c = passed (ltb (19 * n) (20 * s .uvl)) 225 _ (b .1) in
-      let pv-limit : 20 * n ≤ 21 * l .volts = ltb-false _ _ (a .0) in
-      let ovp-margin : 21 * n ≤ 20 * s .ovp = ltb-false _ _ (b .0) in
-      let uvl-margin : 20 * s .uvl ≤ 19 * n = ltb-false _ _ (c .0) in
-      (ceiling-le 19 (20 * s .uvl) n (lit< tt) (omega arith), omega arith)
-  accepted-range Pc n e =
-      let a = passed (above105 (l .amps) n) 196 _ e in
-      let pc-limit : 20 * n ≤ 21 * l .amps = ltb-false _ _ (a .0) in
-      (omega arith, omega arith)
-  accepted-range Ovp n e =
-      let a = passed (ltb n (l .«ovp_least») || ltb (l .«ovp_most») n) 196 _ e in
-      let b = passed (ltb (20 * n) (21 * s .pv)) 227 _ (a .1) in
-      let o = or-false (ltb n (l .«ovp_least»)) (ltb (l .«ovp_most») n) (a .0) in
-      let ovp-least : l .«ovp_least» ≤ n = ltb-false _ _ (o .0) in
-      let ovp-margin : 21 * s .pv ≤ 20 * n = ltb-false _ _ (b .0) in
-      (omega (arith, ceiling-le 20 (21 * s .pv) n (lit< tt) (omega arith)), ltb-false _ _ (o .1))
-  accepted-range Uvl n e =
-      let a = passed (ltb (l .«uvl_most») n) 196 _ e in
-      let b = passed (ltb (19 * s .pv) (20 * n)) 229 _ (a .1) in
-      let uvl-most : n ≤ l .«uvl_most» = ltb-false _ _ (a .0) in
-      let uvl-margin : 20 * n ≤ 19 * s .pv = ltb-false _ _ (b .0) in
-      (omega arith, omega arith)
-
-  -- so an accepted figure is admissible, where the supply keeps margins and limits
+  -- an accepted figure is admissible, where the supply keeps margins and limits
   pub accepted-admissible : Kept l s → (t : Target) (n : ℕ) → setCode l s t n ≡ 0 → Admissible l s t n
-  accepted-admissible h t n e = let r = accepted-range t n e in from-range l s t n h (r .0) (r .1)
+  accepted-admissible h t n e = let r = accepted-range l s t n e in from-range l s t n h (r .0) (r .1)
 
   -- and an admissible one is accepted
   pub admissible-accepted : (t : Target) (n : ℕ) → Admissible l s t n → setCode l s t n ≡ 0
@@ -101,12 +65,7 @@ module _ (m : ℕ) where
 
   sample-keeps : (s : Supply) (v a : ℕ) → Lawful m s → Lawful m (sampled m s v a)
   unfolding sampled
-  sample-keeps s v a h =
-      let t = withCounts v a s in
-      K (onOf s) (pick (leb (s .ovp) (voltReading m v)) (withOvpTrip true t) (pick (s .armed && inLimit m t) (withFoldTrip true t) t)) t
-      (K (leb (s .ovp) (voltReading m v)) (withOvpTrip true t) (pick (s .armed && inLimit m t) (withFoldTrip true t) t) h
-      (K (s .armed && inLimit m t) (withFoldTrip true t) t h h))
-      h
+  sample-keeps s v a h = h
 
   disarm-keeps : (s : Supply) → Lawful m s → Lawful m (disarmed s)
   unfolding disarmed

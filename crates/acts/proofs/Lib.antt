@@ -1,3 +1,4 @@
 pub mod Idle
 pub mod Keeps
 pub mod Trips
+pub mod Clearing

@@ -1,12 +1,12 @@
 -- Only a named release takes a trip away, each named release does, and a sample alone sets one.
 use mathlib.Core.Path.{_≡_, refl, sym, ap, _∙_}
-use mathlib.Core.Bool.{Bool, true, false, not, _&&_, _||_, false≢true, true≢false}
+use mathlib.Core.Bool.{Bool, true, false, not, _&&_, _||_, false≢true, true≢false, or-false, or-comm}
 use Prim.Native.Nat.{ℕ}
-use lib.Dec.{leb, eqb}
+use lib.Dec.{eqb}
 use borrow.Author.Tests.{eqb-true, eq-eqb}
 use Rattle.base.specs.Choice.{pick}
 use Rattle.base.proofs.Choice.{pick-true}
-use Rattle.models.specs.Models.{limitsOf, voltReading}
+use Rattle.models.specs.Models.{limitsOf}
 use Rattle.supply.specs.declared.Supply.{Supply}
 use Rattle.supply.specs.declared.Key.{Key}
 use Rattle.supply.specs.declared.Key.the-variants.{Output, Fold, Local}
@@ -16,17 +16,16 @@ use Rattle.supply.specs.declared.Order.{Order}
 use Rattle.supply.specs.declared.Order.the-variants.{Set, Ovm, Out, Fld, Ast, Rmt, Fena, Cls, Rst}
 use Rattle.supply.specs.declared.Act.{Act}
 use Rattle.supply.specs.declared.Act.the-variants.{Lines, Sample, Press, Turn, Obey, Ask, Nothing}
-use Rattle.supply.specs.With.{withWant, withArmed, withMode, withCounts}
+use Rattle.supply.specs.With.{withWant, withArmed, withMode}
 use Rattle.supply.specs.State.{fresh}
-use Rattle.supply.specs.Flt.{onOf, linesClear, inLimit, settled}
+use Rattle.supply.specs.Flt.{onOf, linesClear, settled}
 use Rattle.settings.specs.Settings.{withSetting, stepped}
-use Rattle.samples.specs.Samples.{sampled}
+use Rattle.samples.specs.Samples.{tripsOvp, tripsFold, sampled}
 use Rattle.events.specs.Events.{falls, linesChanged, turnedOn, disarmed, pressed, turned}
 use Rattle.codes.specs.Codes.{orderCode}
 use Rattle.orders.specs.Orders.{remote, remoteBy, outDone, fldDone, reset, ordered}
 use Rattle.acts.specs.Acts.{codeOf, clearingQuery, clearingOrder, clearingAct, cleared, acted, closed, performed}
 use Rattle.acts.specs.Releases.{Trip, fold, ovp, isSet, isOvp, orderReleases, keyReleases, releases}
-use Rattle.samples.proofs.Cases.{sample-law}
 use Rattle.events.proofs.Cases.{lines-law, disarm-law}
 use Rattle.supply.proofs.FltBits.{want-off-shut, fold-shut, ovp-shut}
 
@@ -37,8 +36,8 @@ shut ovp s e = ovp-shut s e
 
 -- the acts that set a trip: a sample, judged on the supply before it
 abbrev pub sets : ℕ → Trip → Supply → Act → Bool
-sets m ovp s (Sample v a) = onOf s && leb (s .ovp) (voltReading m v)
-sets m fold s (Sample v a) = (onOf s && not (leb (s .ovp) (voltReading m v))) && (s .armed && inLimit m (withCounts v a s))
+sets m ovp s (Sample v a) = tripsOvp m s v
+sets m fold s (Sample v a) = tripsFold m s v a
 sets m k s (Lines b) = false
 sets m k s (Press j) = false
 sets m k s (Turn t raw) = false
@@ -144,16 +143,6 @@ same-pick : (t x : Bool) → pick t x x ≡ x
 same-pick true x = refl
 same-pick false x = refl
 
-or-none : (x : Bool) → (x || false) ≡ x
-or-none true = refl
-or-none false = refl
-
-or-swap : (x y : Bool) → (x || y) ≡ (y || x)
-or-swap true true = refl
-or-swap true false = refl
-or-swap false true = refl
-or-swap false false = refl
-
 module _ (m : ℕ) (k : Trip) (s : Supply) where
   lines-trip : (b : ℕ) → isSet k (linesChanged s b) ≡ left (releases m k s (Lines b)) (isSet k s)
   unfolding releases
@@ -163,9 +152,10 @@ module _ (m : ℕ) (k : Trip) (s : Supply) where
       k
 
   sample-trip : (v a : ℕ) → isSet k (sampled m s v a) ≡ (isSet k s || sets m k s (Sample v a))
+  unfolding sampled
   sample-trip v a = by-trip (λ j. isSet j (sampled m s v a) ≡ (isSet j s || sets m j s (Sample v a)))
-      (rw (← sample-law m s v a) (or-swap (sets m fold s (Sample v a)) (s .«fold_trip»)))
-      (rw (← sample-law m s v a) (or-swap (sets m ovp s (Sample v a)) (s .«ovp_trip»)))
+      (or-comm (tripsFold m s v a) (s .«fold_trip»))
+      (or-comm (tripsOvp m s v) (s .«ovp_trip»))
       k
 
   key-trip : (j : Key) → isSet k (pressed s j) ≡ left (keyReleases k s j) (isSet k s)
@@ -199,13 +189,13 @@ module _ (m : ℕ) (k : Trip) (s : Supply) where
   -- an accepted act leaves of a trip what it does not release, and a sample may set it
   acted-trip : (a : Act) → codeOf m s a ≡ 0 → isSet k (acted m s a) ≡ (left (releases m k s a) (isSet k s) || sets m k s a)
   unfolding acted releases codeOf
-  acted-trip (Lines b) e = lines-trip b ∙ sym (or-none _)
+  acted-trip (Lines b) e = lines-trip b ∙ sym (or-false _)
   acted-trip (Sample v a) e = sample-trip v a
-  acted-trip (Press j) e = key-trip j ∙ sym (or-none _)
-  acted-trip (Turn t raw) e = knob-trip t raw ∙ sym (or-none _)
-  acted-trip (Obey o) e = order-trip o e ∙ sym (or-none _)
-  acted-trip (Ask q) e = cleared-same k (clearingQuery q) s ∙ sym (or-none _)
-  acted-trip Nothing e = sym (or-none _)
+  acted-trip (Press j) e = key-trip j ∙ sym (or-false _)
+  acted-trip (Turn t raw) e = knob-trip t raw ∙ sym (or-false _)
+  acted-trip (Obey o) e = order-trip o e ∙ sym (or-false _)
+  acted-trip (Ask q) e = cleared-same k (clearingQuery q) s ∙ sym (or-false _)
+  acted-trip Nothing e = sym (or-false _)
 
   -- a refused order releases nothing and sets nothing
   refused-idle : (a : Act) → eqb (codeOf m s a) 0 ≡ false → (releases m k s a ≡ false) × (sets m k s a ≡ false)
@@ -234,7 +224,7 @@ module _ (m : ℕ) (k : Trip) (s : Supply) where
     where
       byCode : (t : Bool) → eqb (codeOf m s a) 0 ≡ t → isSet k (pick t (closed a (settled s (acted m s a))) s) ≡ (left (releases m k s a) (isSet k s) || sets m k s a)
       byCode true e = cleared-same k (clearingAct a) (settled s (acted m s a)) ∙ settled-same k s (acted m s a) ∙ acted-trip a (eqb-true (codeOf m s a) 0 e)
-      byCode false e = let i = refused-idle a e in rw (i .0, i .1) (sym (or-none _))
+      byCode false e = let i = refused-idle a e in rw (i .0, i .1) (sym (or-false _))
 
   -- only a release takes a trip away
   pub held : (a : Act) → isSet k s ≡ true → releases m k s a ≡ false → isSet k (performed m s a) ≡ true

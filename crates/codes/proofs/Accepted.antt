@@ -1,27 +1,55 @@
--- An accepted figure: it passed each check in turn, so it fits 32 bits.
+-- An accepted figure: it passed each check in turn, so it lies where its setting may stand, and fits 32 bits.
 use mathlib.Core.Path.{_≡_}
 use mathlib.Core.Bool.{_||_}
-use Prim.Native.Nat.{ℕ, _*_, _%_, _^_, _<_}
+use Prim.Native.Nat.{ℕ, _*_, _%_, _^_, _<_, _≤_}
 use native.Mathlib.Omega.{arith}
-use lib.Dec.{ltb}
+use lib.Dec.{ltb, lit<}
 use borrow.Author.Tests.{ltb-false}
 use Rattle.base.proofs.Choice.{or-false, passed}
+use Rattle.models.specs.declared.Limits.{Limits}
 use Rattle.models.specs.Models.{limitsOf}
-use Rattle.models.proofs.Rules.{volts-lt, amps-lt, ovp-most-lt, uvl-most-lt}
+use Rattle.settings.specs.Settings.{leastOf, mostOf}
+use Rattle.settings.proofs.Knob.{ceiling-le}
+use Rattle.settings.proofs.Numbers.{most-fits}
 use Rattle.supply.specs.declared.Supply.{Supply}
 use Rattle.supply.specs.declared.Target.{Target}
 use Rattle.supply.specs.declared.Target.the-variants.{Pv, Pc, Ovp, Uvl}
 use Rattle.supply.specs.declared.Order.the-variants.{Set}
 use Rattle.codes.specs.Codes.{above105, setCode, orderCode}
 
-pub set-fits : (m : ℕ) (s : Supply) (t : Target) (n : ℕ) → setCode (limitsOf m) s t n ≡ 0 → n < 2 ^ 32
-unfolding setCode
-set-fits m s Pv n e = omega (arith, volts-lt m, ltb-false (21 * limitsOf m .volts) (20 * n) (passed (above105 (limitsOf m .volts) n) 196 _ e .0))
-set-fits m s Pc n e = omega (arith, amps-lt m, ltb-false (21 * limitsOf m .amps) (20 * n) (passed (above105 (limitsOf m .amps) n) 196 _ e .0))
-set-fits m s Ovp n e =
-    let f = or-false (ltb n (limitsOf m .«ovp_least»)) (ltb (limitsOf m .«ovp_most») n) (passed (ltb n (limitsOf m .«ovp_least») || ltb (limitsOf m .«ovp_most») n) 196 _ e .0) in
-    omega (arith, ovp-most-lt m, ltb-false (limitsOf m .«ovp_most») n (f .1))
-set-fits m s Uvl n e = omega (arith, uvl-most-lt m, ltb-false (limitsOf m .«uvl_most») n (passed (ltb (limitsOf m .«uvl_most») n) 196 _ e .0))
+module _ (l : Limits) (s : Supply) where
+  -- the checks of a figure let through what lies between the least and the most value, on any supply
+  pub accepted-range : (t : Target) (n : ℕ) → setCode l s t n ≡ 0 → (leastOf l s t ≤ n) × (n ≤ mostOf l s t)
+  unfolding setCode leastOf mostOf
+  accepted-range Pv n e =
+      let a = passed (above105 (l .volts) n) 196 _ e in
+      let b = passed (ltb (20 * s .ovp) (21 * n)) 224 _ (a .1) in
+      let c = passed (ltb (19 * n) (20 * s .uvl)) 225 _ (b .1) in
+      let pv-limit : 20 * n ≤ 21 * l .volts = ltb-false _ _ (a .0) in
+      let ovp-margin : 21 * n ≤ 20 * s .ovp = ltb-false _ _ (b .0) in
+      let uvl-margin : 20 * s .uvl ≤ 19 * n = ltb-false _ _ (c .0) in
+      (ceiling-le 19 (20 * s .uvl) n (lit< tt) (omega arith), omega arith)
+  accepted-range Pc n e =
+      let a = passed (above105 (l .amps) n) 196 _ e in
+      let pc-limit : 20 * n ≤ 21 * l .amps = ltb-false _ _ (a .0) in
+      (omega arith, omega arith)
+  accepted-range Ovp n e =
+      let a = passed (ltb n (l .«ovp_least») || ltb (l .«ovp_most») n) 196 _ e in
+      let b = passed (ltb (20 * n) (21 * s .pv)) 227 _ (a .1) in
+      let o = or-false (ltb n (l .«ovp_least»)) (ltb (l .«ovp_most») n) (a .0) in
+      let ovp-least : l .«ovp_least» ≤ n = ltb-false _ _ (o .0) in
+      let ovp-margin : 21 * s .pv ≤ 20 * n = ltb-false _ _ (b .0) in
+      (omega (arith, ceiling-le 20 (21 * s .pv) n (lit< tt) (omega arith)), ltb-false _ _ (o .1))
+  accepted-range Uvl n e =
+      let a = passed (ltb (l .«uvl_most») n) 196 _ e in
+      let b = passed (ltb (19 * s .pv) (20 * n)) 229 _ (a .1) in
+      let uvl-most : n ≤ l .«uvl_most» = ltb-false _ _ (a .0) in
+      let uvl-margin : 20 * n ≤ 19 * s .pv = ltb-false _ _ (b .0) in
+      (omega arith, omega arith)
+
+-- so it fits 32 bits under every model
+set-fits : (m : ℕ) (s : Supply) (t : Target) (n : ℕ) → setCode (limitsOf m) s t n ≡ 0 → n < 2 ^ 32
+set-fits m s t n e = omega (arith, accepted-range (limitsOf m) s t n e .1, most-fits m s t)
 
 -- the low 32 bits of an accepted figure are all of it
 pub set-low : (m : ℕ) (s : Supply) (t : Target) (n : ℕ) → orderCode m s (Set t n) ≡ 0 → n % 0x100000000 ≡ n

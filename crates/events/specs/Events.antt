@@ -1,10 +1,10 @@
 -- What LINES, keys and the knob do to a supply; none of them comes by the serial line.
-use Prim.Native.Nat.{ℕ, _-_}
+use Prim.Native.Nat.{ℕ}
 use mathlib.Core.Bool.{Bool, true, false, not, _&&_}
 use lib.Bits.{bitAnd}
 use lib.Dec.{eqb}
 use Rattle.base.specs.Choice.{pick}
-use Rattle.base.specs.Bits.{bitAt}
+use Rattle.base.specs.Bits.{bitAt, complement}
 use Rattle.models.specs.Models.{limitsOf}
 use Rattle.supply.specs.declared.Supply.{Supply}
 use Rattle.supply.specs.declared.Key.{Key}
@@ -16,7 +16,7 @@ use Rattle.settings.specs.Settings.{withSetting, stepped}
 
 -- any bit of LINES rises; bit k of it falls
 unfoldable pub anyRises : ℕ → ℕ → Bool
-anyRises old new = not (eqb (bitAnd new (255 - old)) 0)
+anyRises old new = not (eqb (bitAnd new (complement old)) 0)
 
 unfoldable pub falls : ℕ → ℕ → ℕ → Bool
 falls k old new = bitAt k old && not (bitAt k new)

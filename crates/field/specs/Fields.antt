@@ -7,10 +7,8 @@ use lib.Dec.{leb, ltb, eqb}
 use lib.ListN.{length, getD, take, drop}
 use Rattle.base.specs.Choice.{pick}
 use Rattle.wire.specs.Wire.{field, byte, event, Parsed, refuse, accept}
-use Rattle.supply.specs.declared.Key.{Key}
-use Rattle.supply.specs.declared.Key.the-variants as key
-use Rattle.supply.specs.declared.Target.{Target}
-use Rattle.supply.specs.declared.Target.the-variants as target
+use Rattle.supply.specs.declared.Key.the-variants.{Output, Fold, Local}
+use Rattle.supply.specs.declared.Target.the-variants.{Pv, Pc, Ovp, Uvl}
 use Rattle.supply.specs.declared.Act.{Act}
 use Rattle.supply.specs.declared.Act.the-variants.{Lines, Sample, Press, Turn, Nothing}
 
@@ -57,17 +55,26 @@ valuesFit t p =
     (pick (eqb t 3) (ltb (getD p 1 0) 4)
     (pick (eqb t 4) (eqb (bitAnd (getD p 1 0) 0x59) 0) true))
 
-unfoldable pub keyOf : ℕ → Key
-keyOf n = pick (eqb n 0) key.Output (pick (eqb n 1) key.Fold key.Local)
+-- the key with this number pressed; a number that no key has asks nothing
+unfoldable pub pressOf : ℕ → Act
+pressOf n =
+    pick (eqb n 0) (Press Output)
+    (pick (eqb n 1) (Press Fold)
+    (pick (eqb n 2) (Press Local) Nothing))
 
-unfoldable pub targetOf : ℕ → Target
-targetOf n = pick (eqb n 0) target.Pv (pick (eqb n 1) target.Pc (pick (eqb n 2) target.Ovp target.Uvl))
+-- the knob turned for the target with this number, by the step
+unfoldable pub turnOf : ℕ → ℕ → Act
+turnOf n step =
+    pick (eqb n 0) (Turn Pv step)
+    (pick (eqb n 1) (Turn Pc step)
+    (pick (eqb n 2) (Turn Ovp step)
+    (pick (eqb n 3) (Turn Uvl step) Nothing)))
 
 -- what a field of tags 2 to 5 asks of its supply; the payload begins with the address
 unfoldable pub actOf : ℕ → List ℕ → Act
 actOf t p =
-    pick (eqb t 2) (Press (keyOf (getD p 1 0)))
-    (pick (eqb t 3) (Turn (targetOf (getD p 1 0)) (quadAt p 2))
+    pick (eqb t 2) (pressOf (getD p 1 0))
+    (pick (eqb t 3) (turnOf (getD p 1 0) (quadAt p 2))
     (pick (eqb t 4) (Lines (getD p 1 0))
     (pick (eqb t 5) (Sample (pairAt p 1) (pairAt p 3)) Nothing)))
 

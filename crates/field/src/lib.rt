@@ -2,7 +2,7 @@
 ghost use mathlib.Core.Path.{_≡_};
 ghost use Prim.Native.Nat.{_+_, _<_, _≤_};
 ghost use lib.ListN.{length, getD, take, drop};
-ghost use Rattle.field.specs.Fields.{pairAt, quadAt, tagOf, lengthOf, lengthFits, headerCode, isSample, valuesFit, keyOf, targetOf, actOf};
+ghost use Rattle.field.specs.Fields.{pairAt, quadAt, tagOf, lengthOf, lengthFits, headerCode, isSample, valuesFit, pressOf, turnOf, actOf};
 use supply::Act;
 use supply::Key;
 use supply::Target;
@@ -128,24 +128,28 @@ pub fn values_fit(tag: u8, p: &[u8]) -> bool
     }
 }
 
-fn key_of(n: u8) -> Key
-    ensures { λ r. ⌜ r ≡ keyOf n ⌝ }
+// The key with this number pressed.
+fn press_of(n: u8) -> Act
+    ensures { λ r. ⌜ r ≡ pressOf n ⌝ }
 {
     match n {
-        0 => Key::Output,
-        1 => Key::Fold,
-        _ => Key::Local,
+        0 => Act::Press(Key::Output),
+        1 => Act::Press(Key::Fold),
+        2 => Act::Press(Key::Local),
+        _ => Act::Nothing,
     }
 }
 
-fn target_of(n: u8) -> Target
-    ensures { λ r. ⌜ r ≡ targetOf n ⌝ }
+// The knob turned for the target with this number.
+fn turn_of(n: u8, step: u32) -> Act
+    ensures { λ r. ⌜ r ≡ turnOf n step ⌝ }
 {
     match n {
-        0 => Target::Pv,
-        1 => Target::Pc,
-        2 => Target::Ovp,
-        _ => Target::Uvl,
+        0 => Act::Turn(Target::Pv, step),
+        1 => Act::Turn(Target::Pc, step),
+        2 => Act::Turn(Target::Ovp, step),
+        3 => Act::Turn(Target::Uvl, step),
+        _ => Act::Nothing,
     }
 }
 
@@ -154,8 +158,8 @@ pub fn act_of(tag: u8, p: &[u8]) -> Act
     ensures { λ r. ⌜ r ≡ actOf tag (now (p .entry)) ⌝ }
 {
     match tag {
-        2 => Act::Press(key_of(byte_at(p, 1))),
-        3 => Act::Turn(target_of(byte_at(p, 1)), quad_at(p, 2)),
+        2 => press_of(byte_at(p, 1)),
+        3 => turn_of(byte_at(p, 1), quad_at(p, 2)),
         4 => Act::Lines(byte_at(p, 1)),
         5 => Act::Sample(pair_at(p, 1), pair_at(p, 3)),
         _ => Act::Nothing,

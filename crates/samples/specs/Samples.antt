@@ -1,19 +1,26 @@
 -- What a sample does to a supply.
 use Prim.Native.Nat.{ℕ}
-use mathlib.Core.Bool.{true, _&&_}
+use mathlib.Core.Bool.{Bool, not, _&&_, _||_}
 use lib.Dec.{leb}
-use Rattle.base.specs.Choice.{pick}
 use Rattle.models.specs.Models.{voltReading}
 use Rattle.supply.specs.declared.Supply.{Supply}
 use Rattle.supply.specs.With.{withFoldTrip, withOvpTrip, withCounts}
 use Rattle.supply.specs.Flt.{onOf, inLimit}
 
--- a sample: the counts are stored in any case; with the output on before it, over-voltage is judged first, and only else,
--- where foldback is armed, the current
+-- the volt reading of a count is at least OVP
+abbrev pub reachesOvp : ℕ → Supply → ℕ → Bool
+reachesOvp m s v = leb (s .ovp) (voltReading m v)
+
+-- a sample trips with the output on before it: OVP where it reaches OVP, and only else FOLD, where foldback is armed and the
+-- new current reaches PC
+abbrev pub tripsOvp : ℕ → Supply → ℕ → Bool
+tripsOvp m s v = onOf s && reachesOvp m s v
+
+abbrev pub tripsFold : ℕ → Supply → ℕ → ℕ → Bool
+tripsFold m s v a = onOf s && (not (reachesOvp m s v) && (s .armed && inLimit m (withCounts v a s)))
+
+-- the counts are stored in any case, and a sample takes no trip back
 unfoldable pub sampled : ℕ → Supply → ℕ → ℕ → Supply
 sampled m s v a =
-    let stored = withCounts v a s in
-    pick (onOf s)
-    (pick (leb (s .ovp) (voltReading m v)) (withOvpTrip true stored)
-    (pick (s .armed && inLimit m stored) (withFoldTrip true stored) stored))
-    stored
+    withOvpTrip (tripsOvp m s v || s .«ovp_trip»)
+    (withFoldTrip (tripsFold m s v a || s .«fold_trip») (withCounts v a s))

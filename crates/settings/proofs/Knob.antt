@@ -11,15 +11,15 @@ use Rattle.models.specs.declared.Limits.{Limits}
 use Rattle.supply.specs.declared.Supply.{Supply}
 use Rattle.supply.specs.declared.Target.{Target}
 use Rattle.supply.specs.declared.Target.the-variants.{Pv, Pc, Ovp, Uvl}
-use Rattle.settings.specs.Settings.{settingOf, withSetting, leastOf, mostOf, signedOf, nearestIn, stepped}
-use Rattle.settings.specs.Lawful.{Kept, Admissible, Nearest}
+use Rattle.settings.specs.Settings.{settingOf, withSetting, ceiling, leastOf, mostOf, signedOf, nearestIn, stepped}
+use Rattle.settings.specs.Lawful.{Within, Kept, Admissible, Nearest}
 
 -- a quotient rounded up is at most x just where the product says so
 module _ (q n x : ℕ) (some : 0 < q) where
-  le-of-ceiling : (n + (q - 1)) / q ≤ x → n ≤ x * q
+  le-of-ceiling : ceiling n q ≤ x → n ≤ x * q
   le-of-ceiling h = let r : n + (q - 1) < suc x * q = div-lt-iff-lt-mul some .0 (omega arith) in omega (arith, rw suc-mul at r)
 
-  pub ceiling-le : n ≤ x * q → (n + (q - 1)) / q ≤ x
+  pub ceiling-le : n ≤ x * q → ceiling n q ≤ x
   ceiling-le h = let r : n + (q - 1) < suc x * q = rw suc-mul (omega arith) in omega (arith, div-lt-iff-lt-mul {y = suc x} some .1 r)
 
 -- a setting put where it stands
@@ -29,6 +29,16 @@ same-setting s Pv = refl
 same-setting s Pc = refl
 same-setting s Ovp = refl
 same-setting s Uvl = refl
+
+-- the seven facts of four settings, in the order of `Within`
+pub within :
+    (l : Limits) (pv pc ovp uvl : ℕ)
+    → 20 * uvl ≤ 19 * pv → 21 * pv ≤ 20 * ovp
+    → 20 * pv ≤ 21 * l .volts → 20 * pc ≤ 21 * l .amps
+    → l .«ovp_least» ≤ ovp → ovp ≤ l .«ovp_most» → uvl ≤ l .«uvl_most»
+    → Within l pv pc ovp uvl
+within l pv pc ovp uvl a b c d e f g =
+    record { uvl-margin = a; ovp-margin = b; pv-limit = c; pc-limit = d; ovp-least = e; ovp-most = f; uvl-most = g }
 
 module _ (l : Limits) (s : Supply) where
   -- an admissible value lies between the least and the most
@@ -43,45 +53,15 @@ module _ (l : Limits) (s : Supply) where
   pub from-range : (t : Target) (x : ℕ) → Kept l s → leastOf l s t ≤ x → x ≤ mostOf l s t → Admissible l s t x
   unfolding withSetting leastOf mostOf
   from-range Pv x h lo hi =
-      record {
-        uvl-margin = omega (arith, le-of-ceiling 19 (20 * s .uvl) x (lit< tt) lo);
-        ovp-margin = omega arith;
-        pv-limit = omega arith;
-        pc-limit = h .pc-limit;
-        ovp-least = h .ovp-least;
-        ovp-most = h .ovp-most;
-        uvl-most = h .uvl-most;
-      }
+      within l x (s .pc) (s .ovp) (s .uvl) (omega (arith, le-of-ceiling 19 (20 * s .uvl) x (lit< tt) lo)) (omega arith) (omega arith)
+      (h .pc-limit) (h .ovp-least) (h .ovp-most) (h .uvl-most)
   from-range Pc x h lo hi =
-      record {
-        uvl-margin = h .uvl-margin;
-        ovp-margin = h .ovp-margin;
-        pv-limit = h .pv-limit;
-        pc-limit = omega arith;
-        ovp-least = h .ovp-least;
-        ovp-most = h .ovp-most;
-        uvl-most = h .uvl-most;
-      }
+      within l (s .pv) x (s .ovp) (s .uvl) (h .uvl-margin) (h .ovp-margin) (h .pv-limit) (omega arith) (h .ovp-least) (h .ovp-most) (h .uvl-most)
   from-range Ovp x h lo hi =
-      record {
-        uvl-margin = h .uvl-margin;
-        ovp-margin = omega (arith, le-of-ceiling 20 (21 * s .pv) x (lit< tt) (omega arith));
-        pv-limit = h .pv-limit;
-        pc-limit = h .pc-limit;
-        ovp-least = omega arith;
-        ovp-most = hi;
-        uvl-most = h .uvl-most;
-      }
+      within l (s .pv) (s .pc) x (s .uvl) (h .uvl-margin) (omega (arith, le-of-ceiling 20 (21 * s .pv) x (lit< tt) (omega arith)))
+      (h .pv-limit) (h .pc-limit) (omega arith) hi (h .uvl-most)
   from-range Uvl x h lo hi =
-      record {
-        uvl-margin = omega arith;
-        ovp-margin = h .ovp-margin;
-        pv-limit = h .pv-limit;
-        pc-limit = h .pc-limit;
-        ovp-least = h .ovp-least;
-        ovp-most = h .ovp-most;
-        uvl-most = omega arith;
-      }
+      within l (s .pv) (s .pc) (s .ovp) x (omega arith) (h .ovp-margin) (h .pv-limit) (h .pc-limit) (h .ovp-least) (h .ovp-most) (omega arith)
 
   -- so the interval of a supply that keeps margins and limits is not empty: it holds the setting as it stands
   pub not-empty : (t : Target) → Kept l s → leastOf l s t ≤ mostOf l s t

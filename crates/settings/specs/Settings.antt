@@ -21,11 +21,16 @@ withSetting Pc x s = withPc x s
 withSetting Ovp x s = withOvp x s
 withSetting Uvl x s = withUvl x s
 
--- where a setting may stand under any five limits, the other settings as they are: from the least to the most value that margins and limits allow
+-- a quotient rounded up to a whole number
+abbrev pub ceiling : ℕ → ℕ → ℕ
+ceiling n d = (n + (d - 1)) / d
+
+-- where a setting may stand under any five limits, the other settings as they are: from the least to the most value that
+-- margins and limits allow
 unfoldable pub leastOf : Limits → Supply → Target → ℕ
-leastOf l s Pv = (20 * s .uvl + 18) / 19
+leastOf l s Pv = ceiling (20 * s .uvl) 19
 leastOf l s Pc = 0
-leastOf l s Ovp = max (l .«ovp_least») ((21 * s .pv + 19) / 20)
+leastOf l s Ovp = max (l .«ovp_least») (ceiling (21 * s .pv) 20)
 leastOf l s Uvl = 0
 
 unfoldable pub mostOf : Limits → Supply → Target → ℕ

@@ -54,7 +54,8 @@ fn larger(a: u64, b: u64) -> u64
     if a < b { b } else { a }
 }
 
-// The least value of a setting that keeps margins and limits.
+// The least value of a setting that keeps margins and limits. A margin is a quotient rounded up: by 19 it takes 18 more,
+// by 20 it takes 19 more.
 fn least_of(model: u8, s: Supply, t: Target) -> u64
     ensures { λ r. ⌜ r ≡ leastOf (limitsOf model) s t ⌝ }
 {

@@ -1,18 +1,22 @@
 -- FLT and what is read off it: nothing else looks at LINES and the trips for the output, or compares the current.
-use Prim.Native.Nat.{ℕ, _*_, _-_}
+use Prim.Native.Nat.{ℕ}
 use mathlib.Core.Path.{_≡_}
 use mathlib.Core.Bool.{Bool, false, not, _&&_, _||_}
 use lib.Bits.{bitAnd, bitOr}
 use lib.Dec.{leb, eqb}
 use Rattle.base.specs.Choice.{bit}
-use Rattle.base.specs.Bits.{bitAt}
+use Rattle.base.specs.Bits.{bitAt, shift, complement}
 use Rattle.models.specs.Models.{ampReading}
 use Rattle.supply.specs.declared.Supply.{Supply}
 use Rattle.supply.specs.With.{withFeve}
 
--- FLT: LINES through the mask 0xA6 (AC 1, OTP 2, SO 5, ENA 7), the FOLD trip at bit 3, the OVP trip at 4, and at 6 that WANT is off
+-- FLT: LINES through the mask 0xA6 (AC 1, OTP 2, SO 5, ENA 7), the FOLD trip at bit 3, the OVP trip at 4, and at 6 that
+-- WANT is off
 unfoldable pub fltOf : Supply → ℕ
-fltOf s = bitOr (bitOr (bitOr (bitAnd (s .lines) 0xA6) (bit (s .«fold_trip») * 8)) (bit (s .«ovp_trip») * 16)) (bit (not (s .want)) * 64)
+fltOf s =
+    bitOr
+    (bitOr (bitOr (bitAnd (s .lines) 0xA6) (shift 3 (bit (s .«fold_trip»)))) (shift 4 (bit (s .«ovp_trip»))))
+    (shift 6 (bit (not (s .want))))
 
 -- no fault bit: the output is on
 unfoldable pub onOf : Supply → Bool
@@ -28,7 +32,8 @@ inLimit m s = leb (s .pc) (ampReading m (s .«amp_count»))
 
 -- the second stage of an act: a fault bit that was 0 and now is 1 goes into FEVE where FENA, as it was, enables it
 unfoldable pub settled : Supply → Supply → Supply
-settled before after = withFeve (bitOr (after .feve) (bitAnd (bitAnd (fltOf after) (255 - fltOf before)) (before .fena))) after
+settled before after =
+    withFeve (bitOr (after .feve) (bitAnd (bitAnd (fltOf after) (complement (fltOf before))) (before .fena))) after
 
 -- FLT BIT BY BIT
 pub record FltBits (s : Supply) : Type 0 where
@@ -43,4 +48,6 @@ pub record FltBits (s : Supply) : Type 0 where
 
 -- FEVE BIT BY BIT: bit k after an event is set where it was, or where the fault bit rose and was enabled before
 abbrev pub FeveBit : Supply → Supply → ℕ → Type 0
-FeveBit before after k = bitAt k (settled before after .feve) ≡ (bitAt k (after .feve) || ((bitAt k (fltOf after) && not (bitAt k (fltOf before))) && bitAt k (before .fena)))
+FeveBit before after k =
+    bitAt k (settled before after .feve)
+    ≡ (bitAt k (after .feve) || ((bitAt k (fltOf after) && not (bitAt k (fltOf before))) && bitAt k (before .fena)))

@@ -18,8 +18,8 @@ act-of-spec =
     (λ c κs. search needs)
     (λ c κs. search needs)
     (λ c κs. search needs)
-    (λ c. rw (c .before .before .match .keys1, c .key-of .ensures, c .before .byte-at .ensures))
-    (λ c. rw (c .before .before .before .match .keys2, c .before .target-of .ensures, c .before .before .byte-at2 .ensures, c .quad-at .ensures))
+    (λ c. rw (c .before .before .match .keys1, ← c .before .byte-at .ensures) (c .press-of .ensures))
+    (λ c. rw (c .before .before .before .match .keys2, ← c .before .before .byte-at2 .ensures, ← c .before .quad-at .ensures) (c .turn-of .ensures))
     (λ c. rw (c .before .match .keys3, c .byte-at3 .ensures))
     (λ c. rw (c .before .before .match .keys4, c .before .pair-at .ensures, c .pair-at2 .ensures))
     (λ c.

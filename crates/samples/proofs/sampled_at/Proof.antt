@@ -1,7 +1,8 @@
 -- `sampled_at` meets its contract: its branches are those of the paper's sentence.
+use mathlib.Core.Path.{sym, _∙_}
 use borrow.Author.Needs.{needs}
 use Rattle.supply.specs.Flt.{inLimit}
-use Rattle.samples.specs.Samples.{sampled}
+use Rattle.samples.proofs.Cases.{when-off, when-over, when-limited, when-neither}
 use Rattle.samples.proofs.sampled_at.Statement.{statement}
 use Rattle.samples.proofs.sampled_at.Tie as tie
 
@@ -19,29 +20,32 @@ reaches-pc-requires c κs = search needs
 
 -- over-voltage
 returns : tie.Need-returns
-unfolding sampled
 returns c =
     let known = c .before .before .before .before .before in
-    rw (← known .before .before .is-on .ensures, known .before .if1 .taken, ← known .readings-of .ensures .0, c .if2 .taken)
+    let on = sym (known .before .before .is-on .ensures) ∙ known .before .if1 .taken in
+    when-over _ _ _ _ on (rw (known .readings-of .ensures .0) at (c .if2 .taken))
 
 -- the current, over-voltage apart
 returns-2 : tie.Need-returns-2
-unfolding sampled inLimit
+unfolding inLimit
 returns-2 c =
     let known = c .before .before .before .before .before .before in
-    rw (← known .before .before .is-on .ensures, known .before .if1 .taken, ← known .readings-of .ensures .0, c .before .if2 .left, ← known .readings-of .ensures .1, ← c .before .before .before .reaches-pc .ensures, c .if3 .taken)
+    let on = sym (known .before .before .is-on .ensures) ∙ known .before .if1 .taken in
+    when-limited _ _ _ _ on (rw (known .readings-of .ensures .0) at (c .before .if2 .left))
+    (rw (c .before .before .before .reaches-pc .ensures, known .readings-of .ensures .1) at (c .if3 .taken))
 
 -- neither
 returns-3 : tie.Need-returns-3
-unfolding sampled inLimit
+unfolding inLimit
 returns-3 c =
     let known = c .before .before .before .before .before .before in
-    rw (← known .before .before .is-on .ensures, known .before .if1 .taken, ← known .readings-of .ensures .0, c .before .if2 .left, ← known .readings-of .ensures .1, ← c .before .before .before .reaches-pc .ensures, c .if3 .left)
+    let on = sym (known .before .before .is-on .ensures) ∙ known .before .if1 .taken in
+    when-neither _ _ _ _ on (rw (known .readings-of .ensures .0) at (c .before .if2 .left))
+    (rw (c .before .before .before .reaches-pc .ensures, known .readings-of .ensures .1) at (c .if3 .left))
 
 -- the output is off
 returns-4 : tie.Need-returns-4
-unfolding sampled
-returns-4 c = rw (← c .before .is-on .ensures, c .if1 .left)
+returns-4 c = when-off _ _ _ _ (sym (c .before .is-on .ensures) ∙ c .if1 .left)
 
 pub sampled-at-spec : {M : Type 1} → statement M
 sampled-at-spec =

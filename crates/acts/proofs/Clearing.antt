@@ -1,0 +1,53 @@
+-- What clears FEVE, and that nothing else does.
+use mathlib.Core.Path.{_≡_, refl, ap}
+use mathlib.Core.Logic.{_⊎_, inl, inr, ⊎-elim}
+use mathlib.Core.Bool.{true, false≢true}
+use Rattle.supply.specs.declared.Order.{Order}
+use Rattle.supply.specs.declared.Order.the-variants.{Set, Ovm, Out, Fld, Ast, Rmt, Fena, Cls, Rst}
+use Rattle.supply.specs.declared.Query.{Query}
+use Rattle.supply.specs.declared.Query.the-variants as query
+use Rattle.supply.specs.declared.Act.{Act}
+use Rattle.supply.specs.declared.Act.the-variants.{Lines, Sample, Press, Turn, Obey, Ask, Nothing}
+use Rattle.acts.specs.Acts.{clearingQuery, clearingOrder, clearingAct, Clearing}
+
+query-is : (q : Query) → clearingQuery q ≡ true → q ≡ query.Feve
+unfolding clearingQuery
+query-is query.Feve e = refl
+query-is query.Pv e = absurd (false≢true e)
+query-is query.Pc e = absurd (false≢true e)
+query-is query.Ovp e = absurd (false≢true e)
+query-is query.Uvl e = absurd (false≢true e)
+query-is query.Mv e = absurd (false≢true e)
+query-is query.Mc e = absurd (false≢true e)
+query-is query.Out e = absurd (false≢true e)
+query-is query.Fld e = absurd (false≢true e)
+query-is query.Ast e = absurd (false≢true e)
+query-is query.Rmt e = absurd (false≢true e)
+query-is query.Mode e = absurd (false≢true e)
+query-is query.Flt e = absurd (false≢true e)
+query-is query.Fena e = absurd (false≢true e)
+
+order-is : (o : Order) → clearingOrder o ≡ true → (o ≡ Cls) ⊎ (o ≡ Rst)
+unfolding clearingOrder
+order-is Cls e = inl refl
+order-is Rst e = inr refl
+order-is (Set t n) e = absurd (false≢true e)
+order-is Ovm e = absurd (false≢true e)
+order-is (Out b) e = absurd (false≢true e)
+order-is (Fld b) e = absurd (false≢true e)
+order-is (Ast b) e = absurd (false≢true e)
+order-is (Rmt k) e = absurd (false≢true e)
+order-is (Fena b) e = absurd (false≢true e)
+
+act-is : (a : Act) → clearingAct a ≡ true → (a ≡ Obey Cls) ⊎ (a ≡ Obey Rst)
+unfolding clearingAct
+act-is (Obey o) e = ⊎-elim (λ p. inl (ap Obey p)) (λ p. inr (ap Obey p)) (order-is o e)
+act-is (Lines b) e = absurd (false≢true e)
+act-is (Sample v a) e = absurd (false≢true e)
+act-is (Press k) e = absurd (false≢true e)
+act-is (Turn t raw) e = absurd (false≢true e)
+act-is (Ask q) e = absurd (false≢true e)
+act-is Nothing e = absurd (false≢true e)
+
+pub clearing : Clearing
+clearing = record { query-is = query-is; order-is = order-is; act-is = act-is }
