@@ -5,6 +5,7 @@ pub use calls::call;
 use slots::Rack;
 
 // What a fitting list makes: code 0 and a fresh rack, or 8 and a rack of empty slots.
+#[repr(C)]
 pub struct Fitted {
     pub code: u8,
     pub rack: Rack,

@@ -8,6 +8,7 @@ use command::Heard;
 use wire::Setup;
 
 // The line: kept characters and their count, whether it is spoiled, and the slot selected, 31 for nobody.
+#[repr(C)]
 pub struct Line {
     pub kept: [u8; 64],
     pub count: usize,

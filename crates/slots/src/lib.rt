@@ -16,6 +16,7 @@ use supply::Supply;
 use wire::Setup;
 
 // The rack by value: 31 slots, the serial line and the setup.
+#[repr(C)]
 pub struct Rack {
     pub slots: [Supply; 31],
     pub line: Line,

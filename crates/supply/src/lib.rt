@@ -5,6 +5,7 @@ ghost use Rattle.supply.specs.State.{fresh};
 ghost use Rattle.supply.specs.Flt.{fltOf, onOf, linesClear, inLimit, settled};
 
 // The whole state of a supply. Figures in ticks of 0.1 mV and in mA; mode is 0 local, 1 remote, 2 locked out.
+#[repr(C)]
 pub struct Supply {
     pub pv: u32,
     pub pc: u32,
