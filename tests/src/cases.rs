@@ -1,9 +1,9 @@
 //! The readable cases: each a script with the output that the paper asks for beside it.
 
 use std::fs;
-use std::path::Path;
+use std::path::{Path, PathBuf};
 
-use crate::script;
+use crate::script::{self, Script};
 
 /// One case as it stands in its two files.
 pub struct Case {
@@ -19,20 +19,37 @@ pub fn folder() -> &'static Path {
 
 /// All cases of a folder in the order of their names.
 pub fn load(folder: &Path) -> Result<Vec<Case>, String> {
+    paths(folder)?.iter().map(|path| load_one(path)).collect()
+}
+
+/// The scripts of all cases by name, in the same order.
+pub fn scripts(folder: &Path) -> Result<Vec<(String, Script)>, String> {
+    paths(folder)?.iter().map(|path| Ok((name_of(path), script_of(path)?))).collect()
+}
+
+fn paths(folder: &Path) -> Result<Vec<PathBuf>, String> {
     let listing = fs::read_dir(folder).map_err(|error| format!("{}: {error}", folder.display()))?;
     let mut scripts: Vec<_> = listing.flatten().map(|entry| entry.path()).collect();
     scripts.retain(|path| path.extension().is_some_and(|end| end == "script"));
     scripts.sort();
-    scripts.iter().map(|path| load_one(path)).collect()
+    Ok(scripts)
+}
+
+fn name_of(path: &Path) -> String {
+    path.file_stem().unwrap_or_default().to_string_lossy().into_owned()
+}
+
+fn script_of(path: &Path) -> Result<Script, String> {
+    let wrong = |what: String| format!("{}: {what}", name_of(path));
+    let source = fs::read(path).map_err(|error| wrong(error.to_string()))?;
+    script::parse(&source).map_err(wrong)
 }
 
 fn load_one(path: &Path) -> Result<Case, String> {
-    let name = path.file_stem().unwrap_or_default().to_string_lossy().into_owned();
-    let wrong = |what: String| format!("{name}: {what}");
-    let source = fs::read(path).map_err(|error| wrong(error.to_string()))?;
-    let input = script::parse(&source).map_err(wrong)?.bytes();
+    let name = name_of(path);
+    let input = script_of(path)?.bytes();
     let expected = fs::read(path.with_extension("expected"));
-    let expected = expected.map_err(|error| wrong(format!("no expected output: {error}")))?;
+    let expected = expected.map_err(|error| format!("{name}: no expected output: {error}"))?;
     Ok(Case { name, input, expected })
 }
 

@@ -3,6 +3,7 @@
 
 pub mod cases;
 pub mod compare;
+pub mod direct;
 pub mod faults;
 pub mod generate;
 pub mod line;

@@ -1,0 +1,403 @@
+//! The checks of `calls` can fail: the model stands in for the library, right at first and then
+//! wrong in one thing at a time, and each wrong thing is told by its name.
+
+use rack_tests::direct::bench::Tally;
+use rack_tests::direct::forged::fitted_alike;
+use rack_tests::direct::library::{Controller, Done, Fitted, Line, Rack, Supply};
+use rack_tests::direct::outcome::{difference, name_of, Outcome, State, FENCE, FIGURES};
+use rack_tests::direct::{checks, faults, Check};
+use rack_tests::line::LINE_ROOM;
+use rack_tests::rack::{Rack as Model, EMPTY, SLOTS};
+use rack_tests::supply::{Mode, Supply as Plain, MODELS};
+
+const NOBODY: u8 = 31;
+
+// ---- the model as a controller ----
+
+const NO_SUPPLY: Supply = Supply {
+    pv: 0,
+    pc: 0,
+    ovp: 0,
+    uvl: 0,
+    want: 0,
+    armed: 0,
+    ast: 0,
+    mode: 0,
+    lines: 0,
+    fold_trip: 0,
+    ovp_trip: 0,
+    fena: 0,
+    feve: 0,
+    volt_count: 0,
+    amp_count: 0,
+};
+
+fn empty_rack() -> Rack {
+    let line = Line { kept: [0; LINE_ROOM], count: 0, spoiled: 0, selected: NOBODY };
+    Rack { slots: [NO_SUPPLY; SLOTS], line, models: [EMPTY; SLOTS] }
+}
+
+fn supply_of(plain: &Plain) -> Supply {
+    Supply {
+        pv: plain.pv as u32,
+        pc: plain.pc as u32,
+        ovp: plain.ovp as u32,
+        uvl: plain.uvl as u32,
+        want: plain.want.into(),
+        armed: plain.armed.into(),
+        ast: plain.ast.into(),
+        mode: [Mode::Local, Mode::Remote, Mode::LockedOut]
+            .iter()
+            .position(|mode| *mode == plain.mode)
+            .expect("one of three") as u8,
+        lines: plain.lines,
+        fold_trip: plain.fold_trip.into(),
+        ovp_trip: plain.ovp_trip.into(),
+        fena: plain.fena,
+        feve: plain.feve,
+        volt_count: plain.volt_count,
+        amp_count: plain.ampere_count,
+    }
+}
+
+fn plain_of(model: u8, supply: &Supply) -> Plain {
+    Plain {
+        model,
+        pv: supply.pv.into(),
+        pc: supply.pc.into(),
+        ovp: supply.ovp.into(),
+        uvl: supply.uvl.into(),
+        want: supply.want == 1,
+        armed: supply.armed == 1,
+        ast: supply.ast == 1,
+        mode: [Mode::Local, Mode::Remote, Mode::LockedOut][usize::from(supply.mode)],
+        lines: supply.lines,
+        fold_trip: supply.fold_trip == 1,
+        ovp_trip: supply.ovp_trip == 1,
+        fena: supply.fena,
+        feve: supply.feve,
+        volt_count: supply.volt_count,
+        ampere_count: supply.amp_count,
+    }
+}
+
+fn model_of(rack: &Rack) -> Model {
+    let slots = rack.models.iter().zip(&rack.slots);
+    let supply =
+        |(model, supply): (&u8, &Supply)| (*model != EMPTY).then(|| plain_of(*model, supply));
+    Model {
+        slots: slots.map(supply).collect(),
+        selected: (rack.line.selected != NOBODY).then_some(rack.line.selected.into()),
+        kept: rack.line.kept[..rack.line.count].to_vec(),
+        spoiled: rack.line.spoiled == 1,
+    }
+}
+
+/// Whether the model has such a rack; it has none of those that are forged.
+fn known(rack: &Rack) -> bool {
+    let modelled = |model: &u8| usize::from(*model) < MODELS.len() || *model == EMPTY;
+    rack.models.iter().all(modelled)
+        && rack.slots.iter().all(|supply| supply.mode <= 2)
+        && rack.line.count <= LINE_ROOM
+        && rack.line.selected <= NOBODY
+}
+
+fn put(model: &Model, rack: &mut Rack) {
+    for (slot, supply) in rack.slots.iter_mut().zip(&model.slots) {
+        if let Some(plain) = supply {
+            *slot = supply_of(plain);
+        }
+    }
+    rack.line.kept[..model.kept.len()].copy_from_slice(&model.kept);
+    rack.line.count = model.kept.len();
+    rack.line.spoiled = model.spoiled.into();
+    rack.line.selected = model.selected.map_or(NOBODY, |slot| slot as u8);
+}
+
+/// What a call was given and what it leaves, for a fault to meddle with.
+struct Moment<'a> {
+    before: Rack,
+    bytes: &'a [u8],
+    rack: &'a mut Rack,
+    reply: &'a mut [u8],
+    done: &'a mut Done,
+}
+
+impl Moment<'_> {
+    fn accepted(&self) -> bool {
+        self.done.code == 0
+    }
+}
+
+/// The model with something wrong done after each fitting and each call.
+struct Wrong {
+    fit: WrongFit,
+    call: WrongCall,
+}
+
+const RIGHT: Wrong = Wrong { fit: |_, _| {}, call: |_| {} };
+
+impl Controller for Wrong {
+    fn fit(&self, list: &[u8]) -> Fitted {
+        let mut fitted = Fitted { code: 0, rack: empty_rack() };
+        match Model::fit(list) {
+            Ok(model) => {
+                put(&model, &mut fitted.rack);
+                fitted.rack.models.copy_from_slice(list);
+            }
+            Err(code) => fitted.code = code,
+        }
+        (self.fit)(list, &mut fitted);
+        fitted
+    }
+
+    fn call(&self, rack: &mut Rack, bytes: &[u8], reply: &mut [u8]) -> Done {
+        let before = *rack;
+        let mut model = if known(rack) { model_of(rack) } else { fitted_alike(rack) };
+        let mut done = Done { code: 0, used: 0, length: 0 };
+        match model.call(bytes, reply.len()) {
+            Ok((used, text)) => {
+                reply[..text.len()].copy_from_slice(&text);
+                (done.used, done.length) = (used, text.len());
+                if known(rack) {
+                    put(&model, rack);
+                }
+            }
+            Err(code) => done.code = code,
+        }
+        (self.call)(&mut Moment { before, bytes, rack, reply, done: &mut done });
+        done
+    }
+}
+
+/// The first check that such a controller fails says this of it.
+fn tells(checks: &[Check], wrong: &Wrong, said: &str) {
+    let mut tally = Tally::default();
+    let fault = checks.iter().find_map(|check| (check.judge)(wrong, &mut tally).err());
+    let fault = fault.unwrap_or_else(|| panic!("nothing said where it should be '{said}'"));
+    assert!(fault.contains(said), "'{said}' should be said, and it is '{fault}'");
+}
+
+#[test]
+fn the_model_passes_its_own_checks() {
+    let mut tally = Tally::default();
+    let checks = checks(200).expect("the cases are readable");
+    assert_eq!(faults(&RIGHT, &checks, &mut tally), Vec::<String>::new());
+    assert_eq!(tally.missing(), None);
+}
+
+#[test]
+fn what_no_call_met_is_told() {
+    assert!(Tally::default().missing().is_some());
+    let checks = checks(0).expect("the cases are readable");
+    let some = faults(&RIGHT, &checks[checks.len() - 1..], &mut Tally::default());
+    assert_eq!(some.len(), 1, "{some:?}");
+}
+
+type WrongCall = fn(&mut Moment);
+type WrongFit = fn(&[u8], &mut Fitted);
+
+/// One wrong controller for each line: what the report must say, and what it does wrong.
+#[rustfmt::skip]
+const CALLS: &[(&str, WrongCall)] = &[
+    // what is told of an accepted field
+    ("code should be 0 and is 1", |it| if it.accepted() && it.reply.len() == 512 { it.done.code = 1 }),
+    ("code should be 0 and is 3", |it| if it.accepted() && it.bytes[0] == 5 { it.done.code = 3 }),
+    ("used should be", |it| if it.accepted() { it.done.used = it.bytes.len() }),
+    ("used should be", |it| if it.accepted() { it.done.used = it.done.used.min(18) }),
+    ("length should be", |it| if it.accepted() { it.done.length += 1 }),
+    ("length should be", |it| if it.accepted() { it.done.length = it.done.length.min(6) }),
+    ("of the reply should be 13 and is 10", |it| if it.done.length > 0 { it.reply[it.done.length - 1] = 10 }),
+    ("byte 0 of the reply should be", |it| if it.done.length > 7 { it.reply[0] ^= 1 }),
+    // the rest of the buffer
+    ("behind the reply, should be", |it| if it.accepted() { it.reply[it.done.length] = 0 }),
+    ("byte 511 of the buffer, behind the reply", |it| if it.accepted() { it.reply[511] = 13 }),
+    ("byte 4095 of the buffer, behind the reply", |it| if it.reply.len() == 4096 { it.reply[4095] = 0 }),
+    // the rack after an accepted field
+    ("PV should be", |it| if it.bytes.first() == Some(&3) { it.rack.slots = it.before.slots }),
+    ("WANT should be",
+        |it| if it.bytes.first() == Some(&4) { (0..SLOTS).for_each(|slot| it.rack.slots[slot].want = 0) }),
+    ("volt count should be", |it| if it.accepted() { it.rack.slots[30].volt_count = 0 }),
+    ("slot 5 OVP should be", |it| if it.accepted() { it.rack.slots[5].ovp += 1 }),
+    ("FEVE should be", |it| it.rack.slots.iter_mut().for_each(|supply| supply.feve &= !0x20)),
+    ("WANT should be 1 and is 255",
+        |it| it.rack.slots.iter_mut().filter(|it| it.want == 1).for_each(|it| it.want = 255)),
+    ("the model of slot 17 should be", |it| if it.accepted() { it.rack.models[17] ^= 1 }),
+    ("of the line should be",
+        |it| if it.accepted() && it.rack.line.count > 2 { it.rack.line.kept[2] |= 0x20 }),
+    ("the count of kept characters should be",
+        |it| if it.accepted() { it.rack.line.count = it.rack.line.count.min(3) }),
+    ("the line's mark as spoiled should be", |it| it.rack.line.spoiled = 0),
+    ("the address selected should be",
+        |it| if it.accepted() && it.rack.line.selected == NOBODY { it.rack.line.selected = 0 }),
+    // refusals: the wrong number, another order, something told or moved
+    ("code should be 1 and is 2", |it| if it.reply.is_empty() && it.bytes.len() < 3 { it.done.code = 2 }),
+    ("code should be 3 and is 4", |it| if it.done.code == 3 && it.bytes[1] > 0 { it.done.code = 4 }),
+    ("code should be 4 and is 5", |it| if it.done.code == 4 && it.bytes.len() == 3 { it.done.code = 5 }),
+    ("code should be 5 and is 6",
+        |it| if it.done.code == 5 && it.bytes.get(3) == Some(&31) { it.done.code = 6 }),
+    ("code should be 6 and is 7",
+        |it| if it.done.code == 6 && it.bytes[0] == 4 && it.bytes[4] == 0xFF { it.done.code = 7 }),
+    ("code should be 7 and is 0", |it| if it.done.code == 7 && it.bytes[4] == 0x40 { it.done.code = 0 }),
+    ("used should be 0 and is", |it| if it.done.code == 5 { it.done.used = it.bytes.len() }),
+    ("length should be 0 and is", |it| if it.done.code == 7 { it.done.length = 1 }),
+    ("byte 0 of the buffer, behind the reply",
+        |it| if it.done.code == 1 && !it.reply.is_empty() { it.reply[0] = 0 }),
+    ("byte 510 of the buffer, behind the reply",
+        |it| if it.done.code == 1 && it.reply.len() == 511 { it.reply[510] ^= 8 }),
+    ("behind the reply, should be", |it| if it.done.code == 6 { it.reply[0] = b'6' }),
+    ("slot 6 PV should be", |it| if it.done.code == 7 { it.rack.slots[6].pv += 1 }),
+    ("slot 6 ampere count should be", |it| if it.done.code == 4 { it.rack.slots[6].amp_count ^= 1 }),
+    ("the count of kept characters should be", |it| if it.done.code == 5 { it.rack.line.count = 0 }),
+    ("character 63 of the line should be", |it| if it.done.code == 1 { it.rack.line.kept[63] ^= 1 }),
+    ("the address selected should be", |it| if it.done.code == 6 { it.rack.line.selected = NOBODY }),
+    ("the count of kept characters should be 65 and is 64",
+        |it| if it.done.code > 0 && it.before.line.count == 65 { it.rack.line.count = 64 }),
+    ("the model of slot 30 should be", |it| if it.done.code == 2 { it.rack.models[30] = EMPTY }),
+];
+
+#[test]
+fn a_wrong_call_is_told_whatever_is_wrong_with_it() {
+    let checks = checks(20).expect("the cases are readable");
+    for (said, call) in CALLS {
+        tells(&checks, &Wrong { call: *call, ..RIGHT }, said);
+    }
+}
+
+/// The same for fittings.
+#[rustfmt::skip]
+const FITS: &[(&str, WrongFit)] = &[
+    ("code should be 8 and is 0", |list, fitted| if list.is_empty() { fitted.code = 0 }),
+    ("code should be 8 and is 0", |list, fitted| if list.len() == 1000 { fitted.code = 0 }),
+    ("code should be 8 and is 0",
+        |list, fitted| if list.len() == SLOTS && list[30] == 254 { fitted.code = 0 }),
+    ("code should be 0 and is 8", |list, fitted| if list.iter().all(|byte| *byte == 11) { fitted.code = 8 }),
+    ("the model of slot 3 should be 255 and is 0",
+        |_, fitted| if fitted.code == 8 { fitted.rack.models[3] = 0 }),
+    ("slot 9 OVP should be", |_, fitted| if fitted.code == 8 { fitted.rack.slots[9].ovp = 75_000 }),
+    ("the address selected should be 31 and is 0",
+        |_, fitted| if fitted.code == 8 { fitted.rack.line.selected = 0 }),
+    ("the address selected should be 31 and is 0",
+        |_, fitted| if fitted.code == 0 { fitted.rack.line.selected = 0 }),
+    ("the count of kept characters should be 0 and is 1", |_, fitted| fitted.rack.line.count = 1),
+    ("the line's mark as spoiled should be 0 and is 1", |_, fitted| fitted.rack.line.spoiled = 1),
+    ("slot 4 WANT should be 0 and is 1",
+        |list, fitted| if fitted.code == 0 && list[4] == 5 { fitted.rack.slots[4].want = 1 }),
+    ("slot 30 OVP should be",
+        |list, fitted| if fitted.code == 0 && list[30] == 11 { fitted.rack.slots[30].ovp -= 1 }),
+    ("slot 2 FENA should be",
+        |list, fitted| if fitted.code == 0 && list[1] == 7 { fitted.rack.slots[2].fena = 1 }),
+    ("the model of slot 0 should be 10 and is 9",
+        |list, fitted| if fitted.code == 0 && list[0] == 10 { fitted.rack.models[0] = 9 }),
+];
+
+#[test]
+fn a_wrong_fitting_is_told_whatever_is_wrong_with_it() {
+    let checks = checks(20).expect("the cases are readable");
+    for (said, fit) in FITS {
+        tells(&checks, &Wrong { fit: *fit, ..RIGHT }, said);
+    }
+}
+
+// ---- the comparison by itself ----
+
+fn outcome() -> Outcome {
+    Outcome {
+        code: 0,
+        used: 7,
+        length: 3,
+        buffer: (0..512 + 2 * FENCE).map(|at| at as u8).collect(),
+        lent: b"\x01\x00\x04PV?\r".to_vec(),
+        state: State::of(&empty_rack()),
+    }
+}
+
+/// What is said of an outcome that was changed like this.
+fn said(change: impl Fn(&mut Outcome)) -> String {
+    let mut changed = outcome();
+    change(&mut changed);
+    difference(&changed, &outcome()).expect("a changed outcome differs")
+}
+
+#[test]
+fn equal_outcomes_do_not_differ() {
+    assert_eq!(difference(&outcome(), &outcome()), None);
+}
+
+#[test]
+fn a_wrong_number_in_the_answer_is_told() {
+    assert_eq!(said(|it| it.code = 3), "code should be 3 and is 0");
+    assert_eq!(said(|it| it.used = 8), "used should be 8 and is 7");
+    assert_eq!(said(|it| it.length = 4), "length should be 4 and is 3");
+    assert!(said(|it| it.buffer.push(0)).contains("numbers"));
+    assert!(said(|it| it.lent[6] = 0).starts_with("byte 6 lent"));
+}
+
+#[test]
+fn a_wrong_byte_is_told_wherever_it_stands() {
+    const REPLY: usize = FENCE + 3;
+    const BEHIND: usize = FENCE + 512;
+    for at in 0..outcome().buffer.len() {
+        let name = match at {
+            ..FENCE => format!("the byte {} before the buffer", FENCE - at),
+            FENCE..REPLY => format!("byte {} of the reply", at - FENCE),
+            REPLY..BEHIND => format!("byte {} of the buffer, behind the reply,", at - FENCE),
+            _ => format!("the byte {} behind the buffer", at - BEHIND + 1),
+        };
+        let told = said(|it| it.buffer[at] ^= 1);
+        assert!(told.starts_with(&format!("{name} should be ")), "{told}, not {name}");
+    }
+}
+
+#[test]
+fn a_wrong_figure_of_the_rack_is_told_by_its_name() {
+    let mut names = std::collections::HashSet::new();
+    for at in 0..FIGURES {
+        let told = said(|it| it.state.0[at] ^= 1);
+        assert!(told.starts_with(&format!("{} should be ", name_of(at))), "{told}");
+        names.insert(name_of(at));
+    }
+    assert_eq!(names.len(), FIGURES, "each has a name of its own");
+}
+
+#[test]
+fn each_field_of_a_rack_has_its_place() {
+    let mut rack = empty_rack();
+    let mut seen = std::collections::HashSet::new();
+    let blank = State::of(&rack);
+    let mut moved = |rack: &Rack| {
+        let state = State::of(rack);
+        let places = (0..FIGURES).filter(|at| state.0[*at] != blank.0[*at]).collect::<Vec<usize>>();
+        let [place] = places[..] else { panic!("{places:?}") };
+        seen.insert(place);
+    };
+    macro_rules! each {
+        ($($field:ident)*) => { $(
+            for slot in 0..SLOTS {
+                rack.slots[slot].$field = 1;
+                moved(&rack);
+                rack = empty_rack();
+            }
+        )* };
+    }
+    each!(pv pc ovp uvl want armed ast mode lines fold_trip ovp_trip fena feve volt_count amp_count);
+    for slot in 0..SLOTS {
+        rack.models[slot] = 0;
+        moved(&rack);
+        rack = empty_rack();
+    }
+    for at in 0..rack.line.kept.len() {
+        rack.line.kept[at] = 1;
+        moved(&rack);
+        rack = empty_rack();
+    }
+    rack.line.count = 1;
+    moved(&rack);
+    rack = empty_rack();
+    rack.line.spoiled = 1;
+    moved(&rack);
+    rack = empty_rack();
+    rack.line.selected = 0;
+    moved(&rack);
+    assert_eq!(seen.len(), FIGURES);
+}
