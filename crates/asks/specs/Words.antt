@@ -5,6 +5,7 @@ use lib.Dec.{eqb}
 use Rattle.base.specs.Choice.{pick}
 use Rattle.base.specs.Text.{codes}
 use Rattle.words.specs.Words.{Row, findWord}
+use Rattle.supply.specs.declared.Target.{Target}
 use Rattle.supply.specs.declared.Target.the-variants as target
 use Rattle.supply.specs.declared.Order.{Order}
 use Rattle.supply.specs.declared.Order.the-variants.{Set, Ovm, Out, Fld, Ast, Rmt, Fena, Cls, Rst}
@@ -16,41 +17,94 @@ use Rattle.asks.specs.declared.Asks.{Asks}
 use Rattle.asks.specs.declared.Asks.the-variants.{Select, BadSelect, Everyone, Nobody, One, Error}
 use Rattle.parameters.specs.Parameters.{Kind, bare, number, switch, hex, address, unknown, c01, parameterOf}
 
--- a word: what it takes, what it asks with a good value, and what it is with a code
-pub record Command : Type 0 where
-  pub kind : Kind
-  pub asks : ℕ → Asks
-  pub fails : ℕ → Asks
-
--- an order to one supply, a query of one, and an order to every fitted one
-abbrev pub toOne : Kind → (ℕ → Order) → Command
-toOne k o = record { kind = k; asks = λ v. One (Obey (o v)); fails = Error }
-
-abbrev pub ofOne : Query → Command
-ofOne q = record { kind = bare; asks = λ v. One (Ask q); fails = Error }
-
-abbrev pub toAll : Kind → (ℕ → Order) → Command
-toAll k o = record { kind = k; asks = λ v. Everyone (o v); fails = λ c. Nobody }
-
--- ADR selects
-abbrev pub selecting : Command
-selecting = record { kind = address; asks = Select; fails = BadSelect }
+-- an order by its word, before its parameter is read
+pub data OrderWord : Type 0 where
+  set : Target → OrderWord
+  ovm : OrderWord
+  out : OrderWord
+  fld : OrderWord
+  ast : OrderWord
+  rmt : OrderWord
+  fena : OrderWord
+  cls : OrderWord
+  rst : OrderWord
 
 -- volts have four decimals, amperes three
+abbrev pub decimalsOf : Target → ℕ
+decimalsOf target.Pv = 4
+decimalsOf target.Pc = 3
+decimalsOf target.Ovp = 4
+decimalsOf target.Uvl = 4
+
+-- what an order's word takes
+abbrev pub kindOfOrder : OrderWord → Kind
+kindOfOrder (set t) = number (decimalsOf t)
+kindOfOrder ovm = bare
+kindOfOrder out = switch 1
+kindOfOrder fld = switch 1
+kindOfOrder ast = switch 1
+kindOfOrder rmt = switch 2
+kindOfOrder fena = hex
+kindOfOrder cls = bare
+kindOfOrder rst = bare
+
+-- the order with a good value; a word that takes none leaves it aside
+abbrev pub orderWith : OrderWord → ℕ → Order
+orderWith (set t) v = Set t v
+orderWith ovm v = Ovm
+orderWith out v = Out (eqb v 1)
+orderWith fld v = Fld (eqb v 1)
+orderWith ast v = Ast (eqb v 1)
+orderWith rmt v = Rmt v
+orderWith fena v = Fena v
+orderWith cls v = Cls
+orderWith rst v = Rst
+
+-- a command word: an order to the supply selected, a query of it, an order to every fitted supply, ADR, or none of these
+pub data Command : Type 0 where
+  toOne : OrderWord → Command
+  ofOne : Query → Command
+  toAll : OrderWord → Command
+  selecting : Command
+  unknownWord : Command
+
+-- what a word takes; what it asks with a good value, and what it is with a code
+abbrev pub kindOf : Command → Kind
+kindOf (toOne o) = kindOfOrder o
+kindOf (ofOne q) = bare
+kindOf (toAll o) = kindOfOrder o
+kindOf selecting = address
+kindOf unknownWord = unknown
+
+abbrev pub asksWith : Command → ℕ → Asks
+asksWith (toOne o) v = One (Obey (orderWith o v))
+asksWith (ofOne q) v = One (Ask q)
+asksWith (toAll o) v = Everyone (orderWith o v)
+asksWith selecting v = Select v
+asksWith unknownWord v = Error c01
+
+abbrev pub failsWith : Command → ℕ → Asks
+failsWith (toOne o) c = Error c
+failsWith (ofOne q) c = Error c
+failsWith (toAll o) c = Nobody
+failsWith selecting c = BadSelect c
+failsWith unknownWord c = Error c
+
+-- the words, in capitals
 abbrev pub commands : List (Row Command)
 commands =
-    (codes "PV", toOne (number 4) (Set target.Pv)) ∷
-    (codes "PC", toOne (number 3) (Set target.Pc)) ∷
-    (codes "OVP", toOne (number 4) (Set target.Ovp)) ∷
-    (codes "OVM", toOne bare (λ v. Ovm)) ∷
-    (codes "UVL", toOne (number 4) (Set target.Uvl)) ∷
-    (codes "OUT", toOne (switch 1) (λ v. Out (eqb v 1))) ∷
-    (codes "FLD", toOne (switch 1) (λ v. Fld (eqb v 1))) ∷
-    (codes "AST", toOne (switch 1) (λ v. Ast (eqb v 1))) ∷
-    (codes "RMT", toOne (switch 2) Rmt) ∷
-    (codes "FENA", toOne hex Fena) ∷
-    (codes "CLS", toOne bare (λ v. Cls)) ∷
-    (codes "RST", toOne bare (λ v. Rst)) ∷
+    (codes "PV", toOne (set target.Pv)) ∷
+    (codes "PC", toOne (set target.Pc)) ∷
+    (codes "OVP", toOne (set target.Ovp)) ∷
+    (codes "OVM", toOne ovm) ∷
+    (codes "UVL", toOne (set target.Uvl)) ∷
+    (codes "OUT", toOne out) ∷
+    (codes "FLD", toOne fld) ∷
+    (codes "AST", toOne ast) ∷
+    (codes "RMT", toOne rmt) ∷
+    (codes "FENA", toOne fena) ∷
+    (codes "CLS", toOne cls) ∷
+    (codes "RST", toOne rst) ∷
     (codes "PV?", ofOne query.Pv) ∷
     (codes "PC?", ofOne query.Pc) ∷
     (codes "OVP?", ofOne query.Ovp) ∷
@@ -66,23 +120,26 @@ commands =
     (codes "FENA?", ofOne query.Fena) ∷
     (codes "FEVE?", ofOne query.Feve) ∷
     (codes "ADR", selecting) ∷
-    (codes "GPV", toAll (number 4) (Set target.Pv)) ∷
-    (codes "GPC", toAll (number 3) (Set target.Pc)) ∷
-    (codes "GOUT", toAll (switch 1) (λ v. Out (eqb v 1))) ∷
-    (codes "GRST", toAll bare (λ v. Rst)) ∷
+    (codes "GPV", toAll (set target.Pv)) ∷
+    (codes "GPC", toAll (set target.Pc)) ∷
+    (codes "GOUT", toAll out) ∷
+    (codes "GRST", toAll rst) ∷
     []
-
--- a word that is none of these
-abbrev pub unknownWord : Command
-unknownWord = record { kind = unknown; asks = λ v. Error c01; fails = Error }
 
 -- the command of a word in capitals
 abbrev pub commandOf : List ℕ → Command
 commandOf w = findWord unknownWord commands w
 
+-- an order to one supply, or the code of its parameter; and to every fitted one, which in error nobody takes
+abbrev pub oneOrder : Order → ℕ → Asks
+oneOrder o c = pick (eqb c 0) (One (Obey o)) (Error c)
+
+abbrev pub allOrder : Order → ℕ → Asks
+allOrder o c = pick (eqb c 0) (Everyone o) Nobody
+
 -- what a command asks with a parameter as it was read, and with its text
 abbrev pub askedWith : Command → Parameter → Asks
-askedWith k p = pick (eqb (p .code) 0) (k .asks (p .value)) (k .fails (p .code))
+askedWith k p = pick (eqb (p .code) 0) (asksWith k (p .value)) (failsWith k (p .code))
 
 unfoldable pub askedBy : Command → List ℕ → Asks
-askedBy k x = askedWith k (parameterOf (k .kind) x)
+askedBy k x = askedWith k (parameterOf (kindOf k) x)

@@ -1,11 +1,10 @@
 // What a line asks, by its word and its parameter: an order, a query, an address to select, or a code.
 ghost use mathlib.Core.Path.{_≡_};
 ghost use Prim.Native.Nat.{_≤_};
-ghost use lib.Dec.{eqb};
-ghost use Rattle.base.specs.Choice.{pick};
 ghost use Rattle.words.specs.Words.{findNumber};
-ghost use Rattle.parameters.specs.Parameters.{bare, number, switch, hex};
-ghost use Rattle.asks.specs.Words.{commands, unknownWord, toOne, ofOne, toAll, selecting, askedBy};
+ghost use Rattle.parameters.specs.Parameters.{bare, number, parameterOf};
+ghost use Rattle.asks.specs.Words.{set, out, fld, ast, rmt, fena, toOne, ofOne, toAll, selecting, unknownWord};
+ghost use Rattle.asks.specs.Words.{commands, oneOrder, allOrder, askedWith, askedBy};
 ghost use Rattle.asks.specs.Asked.{asksOf};
 use supply::Act;
 use supply::Order;
@@ -27,7 +26,7 @@ pub const C01: u8 = 0xC1;
 
 // An order to one supply, or the code of its parameter.
 fn one_order(o: Order, code: u8) -> Asks
-    ensures { λ r. ⌜ r ≡ pick (eqb code 0) (Asks.One (Act.Obey o)) (Asks.Error code) ⌝ }
+    ensures { λ r. ⌜ r ≡ oneOrder o code ⌝ }
 {
     if code == 0 {
         Asks::One(Act::Obey(o))
@@ -38,7 +37,7 @@ fn one_order(o: Order, code: u8) -> Asks
 
 // An order to every fitted supply; in error, nobody takes it.
 fn all_order(o: Order, code: u8) -> Asks
-    ensures { λ r. ⌜ r ≡ pick (eqb code 0) (Asks.Everyone o) Asks.Nobody ⌝ }
+    ensures { λ r. ⌜ r ≡ allOrder o code ⌝ }
 {
     if code == 0 {
         Asks::Everyone(o)
@@ -49,7 +48,7 @@ fn all_order(o: Order, code: u8) -> Asks
 
 fn set_one(t: Target, k: usize, x: &[u8]) -> Asks
     requires { ⌜ k ≤ 6 ⌝ }
-    ensures { λ r. ⌜ r ≡ askedBy (toOne (number k) (Order.Set t)) (now (x .entry)) ⌝ }
+    ensures { λ r. ⌜ r ≡ askedWith (toOne (set t)) (parameterOf (number k) (now (x .entry))) ⌝ }
 {
     let p = parameters::number_parameter(x, k);
     one_order(Order::Set(t, p.value), p.code)
@@ -57,63 +56,63 @@ fn set_one(t: Target, k: usize, x: &[u8]) -> Asks
 
 fn set_all(t: Target, k: usize, x: &[u8]) -> Asks
     requires { ⌜ k ≤ 6 ⌝ }
-    ensures { λ r. ⌜ r ≡ askedBy (toAll (number k) (Order.Set t)) (now (x .entry)) ⌝ }
+    ensures { λ r. ⌜ r ≡ askedWith (toAll (set t)) (parameterOf (number k) (now (x .entry))) ⌝ }
 {
     let p = parameters::number_parameter(x, k);
     all_order(Order::Set(t, p.value), p.code)
 }
 
 fn out_one(x: &[u8]) -> Asks
-    ensures { λ r. ⌜ r ≡ askedBy (toOne (switch 1) (λ v. Order.Out (eqb v 1))) (now (x .entry)) ⌝ }
+    ensures { λ r. ⌜ r ≡ askedBy (toOne out) (now (x .entry)) ⌝ }
 {
     let p = parameters::switch_parameter(x, 1);
     one_order(Order::Out(p.value == 1), p.code)
 }
 
 fn out_all(x: &[u8]) -> Asks
-    ensures { λ r. ⌜ r ≡ askedBy (toAll (switch 1) (λ v. Order.Out (eqb v 1))) (now (x .entry)) ⌝ }
+    ensures { λ r. ⌜ r ≡ askedBy (toAll out) (now (x .entry)) ⌝ }
 {
     let p = parameters::switch_parameter(x, 1);
     all_order(Order::Out(p.value == 1), p.code)
 }
 
 fn fld_one(x: &[u8]) -> Asks
-    ensures { λ r. ⌜ r ≡ askedBy (toOne (switch 1) (λ v. Order.Fld (eqb v 1))) (now (x .entry)) ⌝ }
+    ensures { λ r. ⌜ r ≡ askedBy (toOne fld) (now (x .entry)) ⌝ }
 {
     let p = parameters::switch_parameter(x, 1);
     one_order(Order::Fld(p.value == 1), p.code)
 }
 
 fn ast_one(x: &[u8]) -> Asks
-    ensures { λ r. ⌜ r ≡ askedBy (toOne (switch 1) (λ v. Order.Ast (eqb v 1))) (now (x .entry)) ⌝ }
+    ensures { λ r. ⌜ r ≡ askedBy (toOne ast) (now (x .entry)) ⌝ }
 {
     let p = parameters::switch_parameter(x, 1);
     one_order(Order::Ast(p.value == 1), p.code)
 }
 
 fn rmt_one(x: &[u8]) -> Asks
-    ensures { λ r. ⌜ r ≡ askedBy (toOne (switch 2) Order.Rmt) (now (x .entry)) ⌝ }
+    ensures { λ r. ⌜ r ≡ askedBy (toOne rmt) (now (x .entry)) ⌝ }
 {
     let p = parameters::switch_parameter(x, 2);
     one_order(Order::Rmt(p.value as u8), p.code)
 }
 
 fn fena_one(x: &[u8]) -> Asks
-    ensures { λ r. ⌜ r ≡ askedBy (toOne hex Order.Fena) (now (x .entry)) ⌝ }
+    ensures { λ r. ⌜ r ≡ askedBy (toOne fena) (now (x .entry)) ⌝ }
 {
     let p = parameters::hex_parameter(x);
     one_order(Order::Fena(p.value as u8), p.code)
 }
 
 fn bare_one(o: Order, x: &[u8]) -> Asks
-    ensures { λ r. ⌜ r ≡ askedBy (toOne bare (λ v. o)) (now (x .entry)) ⌝ }
+    ensures { λ r. ⌜ r ≡ oneOrder o (parameterOf bare (now (x .entry)) .code) ⌝ }
 {
     let p = parameters::bare_parameter(x);
     one_order(o, p.code)
 }
 
 fn bare_all(o: Order, x: &[u8]) -> Asks
-    ensures { λ r. ⌜ r ≡ askedBy (toAll bare (λ v. o)) (now (x .entry)) ⌝ }
+    ensures { λ r. ⌜ r ≡ allOrder o (parameterOf bare (now (x .entry)) .code) ⌝ }
 {
     let p = parameters::bare_parameter(x);
     all_order(o, p.code)

@@ -9,7 +9,6 @@ use borrow.Author.Tests.{ltb-false}
 use Rattle.base.specs.Choice.{pick}
 use Rattle.base.proofs.Choice.{pick-keeps}
 use Rattle.words.specs.Words.{upperAll}
-use Rattle.words.proofs.Table.{find-has}
 use Rattle.wire.specs.Wire.{Class, select, faulty, global, other}
 use Rattle.supply.specs.declared.Supply.{Supply}
 use Rattle.supply.specs.declared.Act.the-variants.{Nothing}
@@ -17,8 +16,8 @@ use Rattle.supply.specs.State.{c05}
 use Rattle.parameters.specs.declared.Parameter.{Parameter}
 use Rattle.asks.specs.declared.Asks.{Asks}
 use Rattle.asks.specs.declared.Asks.the-variants.{Select, BadSelect, Everyone, Nobody, One, Error}
-use Rattle.parameters.specs.Parameters.{address, c04, isEmpty, needed, within30, readAs, refusedBy, parameterOf}
-use Rattle.asks.specs.Words.{Command, commands, selecting, unknownWord, commandOf, askedBy}
+use Rattle.parameters.specs.Parameters.{bare, address, c04, isEmpty, needed, within30, readAs, refusedBy, parameterOf}
+use Rattle.asks.specs.Words.{Command, toOne, ofOne, toAll, selecting, unknownWord, kindOfOrder, commandOf, askedBy}
 use Rattle.asks.specs.Asked.{wordOf, parameterText, asksOf}
 use Rattle.command.specs.Lines.{hasSum, rightSum, summedPart, heardAs, heardOf}
 use Rattle.protocol.specs.Sent.{repliedTo}
@@ -70,22 +69,22 @@ inside-30 p = byTest (ltb 30 (p .value)) refl
     byTest true e = omega arith
     byTest false e = omega (arith, ltb-false 30 (p .value) e)
 
--- of a command whose asks and failures select nothing, and of ADR
-elsewhere : (k : Command) → ((v : ℕ) → selectsInside (k .asks v)) → ((c : ℕ) → selectsInside (k .fails c)) → (x : List ℕ) → selectsInside (askedBy k x)
-unfolding askedBy
-elsewhere k f g x = pick-keeps selectsInside (eqb (parameterOf (k .kind) x .code) 0) (k .asks (parameterOf (k .kind) x .value)) (k .fails (parameterOf (k .kind) x .code)) (f (parameterOf (k .kind) x .value)) (g (parameterOf (k .kind) x .code))
-
-address-inside : (x : List ℕ) → selectsInside (askedBy selecting x)
+-- ADR alone selects, and an address above 30 is none
+word-inside : (k : Command) (x : List ℕ) → selectsInside (askedBy k x)
 unfolding askedBy parameterOf
-address-inside x = pick-keeps selectsInside (eqb (within30 (needed (readAs address x) x) .code) 0) (Select (within30 (needed (readAs address x) x) .value)) (BadSelect (within30 (needed (readAs address x) x) .code)) (inside-30 (needed (readAs address x) x)) tt
-
-word-inside : (w : List ℕ) (x : List ℕ) → selectsInside (askedBy (commandOf w) x)
-word-inside w = find-has unknownWord (λ (k : Command). (x : List ℕ) → selectsInside (askedBy k x)) commands w (λ x. elsewhere unknownWord (λ v. tt) (λ c. tt) x)
-    (λ q x. elsewhere _ (λ v. tt) (λ c. tt) x, (λ q x. elsewhere _ (λ v. tt) (λ c. tt) x, (λ q x. elsewhere _ (λ v. tt) (λ c. tt) x, (λ q x. elsewhere _ (λ v. tt) (λ c. tt) x, (λ q x. elsewhere _ (λ v. tt) (λ c. tt) x, (λ q x. elsewhere _ (λ v. tt) (λ c. tt) x, (λ q x. elsewhere _ (λ v. tt) (λ c. tt) x, (λ q x. elsewhere _ (λ v. tt) (λ c. tt) x, (λ q x. elsewhere _ (λ v. tt) (λ c. tt) x, (λ q x. elsewhere _ (λ v. tt) (λ c. tt) x, (λ q x. elsewhere _ (λ v. tt) (λ c. tt) x, (λ q x. elsewhere _ (λ v. tt) (λ c. tt) x, (λ q x. elsewhere _ (λ v. tt) (λ c. tt) x, (λ q x. elsewhere _ (λ v. tt) (λ c. tt) x, (λ q x. elsewhere _ (λ v. tt) (λ c. tt) x, (λ q x. elsewhere _ (λ v. tt) (λ c. tt) x, (λ q x. elsewhere _ (λ v. tt) (λ c. tt) x, (λ q x. elsewhere _ (λ v. tt) (λ c. tt) x, (λ q x. elsewhere _ (λ v. tt) (λ c. tt) x, (λ q x. elsewhere _ (λ v. tt) (λ c. tt) x, (λ q x. elsewhere _ (λ v. tt) (λ c. tt) x, (λ q x. elsewhere _ (λ v. tt) (λ c. tt) x, (λ q x. elsewhere _ (λ v. tt) (λ c. tt) x, (λ q x. elsewhere _ (λ v. tt) (λ c. tt) x, (λ q x. elsewhere _ (λ v. tt) (λ c. tt) x, (λ q x. elsewhere _ (λ v. tt) (λ c. tt) x, (λ q x. address-inside x, (λ q x. elsewhere _ (λ v. tt) (λ c. tt) x, (λ q x. elsewhere _ (λ v. tt) (λ c. tt) x, (λ q x. elsewhere _ (λ v. tt) (λ c. tt) x, (λ q x. elsewhere _ (λ v. tt) (λ c. tt) x, tt)))))))))))))))))))))))))))))))
+word-inside (toOne o) x = pick-keeps selectsInside (eqb (parameterOf (kindOfOrder o) x .code) 0) _ _ tt tt
+word-inside (ofOne q) x = pick-keeps selectsInside (eqb (parameterOf bare x .code) 0) _ _ tt tt
+word-inside (toAll o) x = pick-keeps selectsInside (eqb (parameterOf (kindOfOrder o) x .code) 0) _ _ tt tt
+word-inside selecting x =
+    pick-keeps selectsInside (eqb (within30 (needed (readAs address x) x) .code) 0)
+    (Select (within30 (needed (readAs address x) x) .value))
+    (BadSelect (within30 (needed (readAs address x) x) .code))
+    (inside-30 (needed (readAs address x) x)) tt
+word-inside unknownWord x = tt
 
 asks-inside : (u : List ℕ) → selectsInside (asksOf u)
 unfolding asksOf
-asks-inside u = pick-keeps selectsInside (isEmpty u) (One Nothing) (askedBy (commandOf (upperAll (wordOf u))) (parameterText u)) tt (word-inside (upperAll (wordOf u)) (parameterText u))
+asks-inside u = pick-keeps selectsInside (isEmpty u) (One Nothing) (askedBy (commandOf (upperAll (wordOf u))) (parameterText u)) tt (word-inside (commandOf (upperAll (wordOf u))) (parameterText u))
 
 heard-inside : (kept : List ℕ) (spoiled : Bool) → selectsInside (heardOf kept spoiled .asks)
 unfolding heardOf

@@ -5,9 +5,9 @@ use mathlib.Core.List.{List}
 use mathlib.Core.Bool.{Bool, true, false, false≢true}
 use native.Mathlib.Nat.{lt-of-lt-of-le}
 use native.Mathlib.Omega.{arith}
-use lib.Dec.{leb, ltb, eqb, lit<, lit≤}
+use lib.Dec.{leb, eqb, lit<, lit≤}
 use lib.ListN.{length, getD, length-append, length-take, length-map}
-use borrow.Author.Tests.{eqb-false, ltb-true, ltb-false, leb-true}
+use borrow.Author.Tests.{eqb-false, leb-true}
 use Rattle.base.specs.Choice.{pick}
 use Rattle.base.proofs.Choice.{pick-keeps, and-both}
 use Rattle.models.proofs.Rules.{volts-small, amps-small}
@@ -15,7 +15,7 @@ use Rattle.prints.specs.Figure.{figure}
 use Rattle.hex.specs.Hex.{hexPair}
 use Rattle.prints.proofs.Print.{length-figure}
 use Rattle.words.specs.Words.{upper, upperAll}
-use Rattle.words.proofs.Table.{find-has}
+use Rattle.words.proofs.Table.{find-passes}
 use Rattle.supply.specs.declared.Supply.{Supply}
 use Rattle.supply.specs.declared.Target.the-variants.{Pv, Pc, Ovp, Uvl}
 use Rattle.supply.specs.declared.Query.{Query}
@@ -30,7 +30,8 @@ use Rattle.answers.specs.Answers.{answerOf, switchOf, modeWord, running}
 use Rattle.asks.specs.declared.Asks.{Asks}
 use Rattle.asks.specs.declared.Asks.the-variants.{Select, BadSelect, Everyone, Nobody, One, Error}
 use Rattle.parameters.specs.Parameters.{c01, c04, isEmpty, parameterOf}
-use Rattle.asks.specs.Words.{Command, commands, unknownWord, commandOf, askedBy}
+use Rattle.asks.specs.Words.{Command, toOne, ofOne, toAll, selecting, unknownWord, kindOf, asksWith, failsWith}
+use Rattle.asks.specs.Words.{commands, commandOf, askedWith, askedBy}
 use Rattle.asks.specs.Asked.{wordOf, parameterText, asksOf}
 use Rattle.command.specs.Lines.{hasSum, rightSum, summedPart, heardAs, heardOf}
 use Rattle.texts.specs.Texts.{codeText, wordText, answerText, ending}
@@ -126,28 +127,48 @@ error-reply : (m : ℕ) (s : Supply) → length (repliedTo m s (Error c01) false
 unfolding repliedTo codeText ending
 error-reply m s = refl
 
--- no word of fewer than three characters is a query's, and no line in error is one
-word-long : (w : List ℕ) → length w < 3 → (v : ℕ) → isQuery (commandOf w .asks v) ≡ false
-word-long w h = find-has unknownWord (λ (k : Command). (v : ℕ) → isQuery (k .asks v) ≡ false) commands w (λ v. refl)
-    (λ q v. refl, (λ q v. refl, (λ q. absurd (omega arith), (λ q. absurd (omega arith), (λ q. absurd (omega arith), (λ q. absurd (omega arith), (λ q. absurd (omega arith), (λ q. absurd (omega arith), (λ q. absurd (omega arith), (λ q. absurd (omega arith), (λ q. absurd (omega arith), (λ q. absurd (omega arith), (λ q. absurd (omega arith), (λ q. absurd (omega arith), (λ q. absurd (omega arith), (λ q. absurd (omega arith), (λ q. absurd (omega arith), (λ q. absurd (omega arith), (λ q. absurd (omega arith), (λ q. absurd (omega arith), (λ q. absurd (omega arith), (λ q. absurd (omega arith), (λ q. absurd (omega arith), (λ q. absurd (omega arith), (λ q. absurd (omega arith), (λ q. absurd (omega arith), (λ q. absurd (omega arith), (λ q. absurd (omega arith), (λ q. absurd (omega arith), (λ q. absurd (omega arith), (λ q. absurd (omega arith), tt)))))))))))))))))))))))))))))))
+-- a query's word has three characters or more
+abbrev longEnough : ℕ → Command → Bool
+longEnough n (ofOne q) = leb 3 n
+longEnough n (toOne o) = true
+longEnough n (toAll o) = true
+longEnough n selecting = true
+longEnough n unknownWord = true
 
-fails-plain : (w : List ℕ) (c : ℕ) → isQuery (commandOf w .fails c) ≡ false
-fails-plain w = find-has unknownWord (λ (k : Command). (c : ℕ) → isQuery (k .fails c) ≡ false) commands w (λ c. refl)
-    (λ q c. refl, (λ q c. refl, (λ q c. refl, (λ q c. refl, (λ q c. refl, (λ q c. refl, (λ q c. refl, (λ q c. refl, (λ q c. refl, (λ q c. refl, (λ q c. refl, (λ q c. refl, (λ q c. refl, (λ q c. refl, (λ q c. refl, (λ q c. refl, (λ q c. refl, (λ q c. refl, (λ q c. refl, (λ q c. refl, (λ q c. refl, (λ q c. refl, (λ q c. refl, (λ q c. refl, (λ q c. refl, (λ q c. refl, (λ q c. refl, (λ q c. refl, (λ q c. refl, (λ q c. refl, (λ q c. refl, tt)))))))))))))))))))))))))))))))
+word-long : (w : List ℕ) → longEnough (length w) (commandOf w) ≡ true
+word-long w = find-passes unknownWord longEnough commands refl w refl
+
+asked-long : (k : Command) (n v : ℕ) → longEnough n k ≡ true → isQuery (asksWith k v) ≡ true → 3 ≤ n
+asked-long (ofOne q) n v h e = leb-true 3 n h
+asked-long (toOne o) n v h e = absurd (false≢true e)
+asked-long (toAll o) n v h e = absurd (false≢true e)
+asked-long selecting n v h e = absurd (false≢true e)
+asked-long unknownWord n v h e = absurd (false≢true e)
+
+-- and no line in error is a query
+fails-plain : (k : Command) (c : ℕ) → isQuery (failsWith k c) ≡ false
+fails-plain (toOne o) c = refl
+fails-plain (ofOne q) c = refl
+fails-plain (toAll o) c = refl
+fails-plain selecting c = refl
+fails-plain unknownWord c = refl
 
 word-of-length : (u : List ℕ) → length (upperAll (wordOf u)) ≤ length u
 word-of-length u = rw (length-map (wordOf u) upper, length-take) (omega arith)
 
 query-long : (u : List ℕ) → isQuery (askedBy (commandOf (upperAll (wordOf u))) (parameterText u)) ≡ true → 3 ≤ length u
 unfolding askedBy
-query-long u = byCode (eqb (parameterOf (commandOf (upperAll (wordOf u)) .kind) (parameterText u) .code) 0) (ltb (length (upperAll (wordOf u))) 3) refl
+query-long u = byCode (commandOf (upperAll (wordOf u))) (word-long (upperAll (wordOf u)))
   where
-    byCode : (b l : Bool) → ltb (length (upperAll (wordOf u))) 3 ≡ l
-        → isQuery (pick b (commandOf (upperAll (wordOf u)) .asks (parameterOf (commandOf (upperAll (wordOf u)) .kind) (parameterText u) .value)) (commandOf (upperAll (wordOf u)) .fails (parameterOf (commandOf (upperAll (wordOf u)) .kind) (parameterText u) .code))) ≡ true
-        → 3 ≤ length u
-    byCode true true q e = absurd (false≢true (sym (word-long (upperAll (wordOf u)) (ltb-true (length (upperAll (wordOf u))) 3 q) _) ∙ e))
-    byCode true false q e = omega (arith, ltb-false (length (upperAll (wordOf u))) 3 q, word-of-length u)
-    byCode false l q e = absurd (false≢true (sym (fails-plain (upperAll (wordOf u)) _) ∙ e))
+    byCode : (k : Command) → longEnough (length (upperAll (wordOf u))) k ≡ true
+        → isQuery (askedWith k (parameterOf (kindOf k) (parameterText u))) ≡ true → 3 ≤ length u
+    byCode k l = byTest (eqb (parameterOf (kindOf k) (parameterText u) .code) 0)
+      where
+        byTest : (b : Bool)
+            → isQuery (pick b (asksWith k (parameterOf (kindOf k) (parameterText u) .value)) (failsWith k (parameterOf (kindOf k) (parameterText u) .code))) ≡ true
+            → 3 ≤ length u
+        byTest true e = omega (arith, asked-long k (length (upperAll (wordOf u))) (parameterOf (kindOf k) (parameterText u) .value) l e, word-of-length u)
+        byTest false e = absurd (false≢true (sym (fails-plain k (parameterOf (kindOf k) (parameterText u) .code)) ∙ e))
 
 body-short : (m : ℕ) (s : Supply) → Sized s → (u : List ℕ) → length (repliedTo m s (asksOf u) false) ≤ 3 * (length u + 1)
 unfolding asksOf

@@ -30,7 +30,7 @@ use Rattle.answers.specs.Answers.{answerOf}
 use Rattle.acts.proofs.Keeps.{admissible-accepted}
 use Rattle.asks.specs.declared.Asks.the-variants.{One}
 use Rattle.parameters.specs.Parameters.{number, isEmpty, readAs, parameterOf}
-use Rattle.asks.specs.Words.{toOne, askedBy}
+use Rattle.asks.specs.Words.{set, toOne, askedWith, askedBy}
 use Rattle.asks.specs.Asked.{asksOf}
 use Rattle.command.specs.Lines.{hasSum, heardAs, heardOf}
 use Rattle.texts.specs.Texts.{answerText, ending}
@@ -79,13 +79,13 @@ not-empty : (w xs : List ℕ) → isEmpty (w ++ (32 ∷ xs)) ≡ false
 not-empty w xs = ne-eqb (length (w ++ (32 ∷ xs))) 0 (λ e. omega (arith, length-append w (32 ∷ xs)))
 
 -- the order of a setting, given its own print
-number-asked : (t : Target) (k v : ℕ) → suc k < 10 → v < 2 ^ 32 → askedBy (toOne (number (suc k)) (Set t)) (figure (suc k) v) ≡ One (Obey (Set t v))
-unfolding askedBy parameterOf readAs
+number-asked : (t : Target) (k v : ℕ) → suc k < 10 → v < 2 ^ 32 → askedWith (toOne (set t)) (parameterOf (number (suc k)) (figure (suc k) v)) ≡ One (Obey (Set t v))
+unfolding parameterOf readAs
 number-asked t k v h l =
     rw (read-short (suc k) v h l, ne-eqb (length (figure (suc k) v)) 0 (λ e. omega (arith, figure-length k v))) refl
 
 read-back : (m : ℕ) (s : Supply) (t : Target) → settingOf t s < 2 ^ 32 → heardOf (orderWord t ++ (32 ∷ answerText (answerOf m s (queryOf t)))) false ≡ heardAs (One (Obey (Set t (settingOf t s)))) false
-unfolding heardOf asksOf answerOf answerText findWord firstAt settingOf
+unfolding heardOf asksOf askedBy answerOf answerText findWord firstAt settingOf
 read-back m s Pv l = rw (no-sum (orderWord Pv) (figure 4 (s .pv)) (omega (arith, figure-length 3 (s .pv))) (third-4 (s .pv)), not-empty (orderWord Pv) (figure 4 (s .pv))) (ap (λ a. heardAs a false) (number-asked Pv 3 (s .pv) (lit< tt) l))
 read-back m s Pc l = rw (no-sum (orderWord Pc) (figure 3 (s .pc)) (omega (arith, figure-length 2 (s .pc))) (third-3 (s .pc)), not-empty (orderWord Pc) (figure 3 (s .pc))) (ap (λ a. heardAs a false) (number-asked Pc 2 (s .pc) (lit< tt) l))
 read-back m s Ovp l = rw (no-sum (orderWord Ovp) (figure 4 (s .ovp)) (omega (arith, figure-length 3 (s .ovp))) (third-4 (s .ovp)), not-empty (orderWord Ovp) (figure 4 (s .ovp))) (ap (λ a. heardAs a false) (number-asked Ovp 3 (s .ovp) (lit< tt) l))

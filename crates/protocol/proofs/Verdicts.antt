@@ -11,14 +11,14 @@ use Rattle.asks.specs.declared.Asks.{Asks}
 use Rattle.asks.specs.declared.Asks.the-variants.{One, Error}
 use Rattle.parameters.specs.Parameters.{Kind, bare, number, switch, hex, address, unknown, c01, c02, c03, c04, readAs, isEmpty, valueIs, refusedBy, within30, parameterOf}
 use Rattle.words.specs.Words.{upperAll}
-use Rattle.asks.specs.Words.{Command, commandOf, askedWith, askedBy}
+use Rattle.asks.specs.Words.{Command, kindOf, asksWith, failsWith, commandOf, askedWith, askedBy}
 use Rattle.asks.specs.Asked.{wordOf, parameterText, asksOf}
 use Rattle.command.specs.Lines.{hasSum, rightSum, summedPart, heardAs, heardOf}
-use Rattle.protocol.specs.Verdicts.{Stage, firstOf, commandIn, givenIn, isUnknown, isAbsent, isMalformed, isBeyond, valueOf, stages}
+use Rattle.protocol.specs.Verdicts.{Stage, firstOf, commandIn, kindIn, givenIn, isUnknown, isAbsent, isMalformed, isBeyond, valueOf, stages}
 
 module _ (k : Command) where
   -- a parameter that is needed: absent, malformed, or read
-  need-cases : (v : ℕ) (e g : Bool) → askedWith k (pick e (refusedBy c02) (pick g (valueIs v) (refusedBy c03))) ≡ pick e (k .fails c02) (pick (not g) (k .fails c03) (k .asks v))
+  need-cases : (v : ℕ) (e g : Bool) → askedWith k (pick e (refusedBy c02) (pick g (valueIs v) (refusedBy c03))) ≡ pick e (failsWith k c02) (pick (not g) (failsWith k c03) (asksWith k v))
   need-cases v true g = refl
   need-cases v false true = refl
   need-cases v false false = refl
@@ -26,21 +26,21 @@ module _ (k : Command) where
   -- and an address, above 30 or not
   address-cases :
       (v : ℕ) (e g b : Bool) → ltb 30 v ≡ b
-      → askedWith k (within30 (pick e (refusedBy c02) (pick g (valueIs v) (refusedBy c03)))) ≡ pick e (k .fails c02) (pick (not g) (k .fails c03) (pick b (k .fails c05) (k .asks v)))
+      → askedWith k (within30 (pick e (refusedBy c02) (pick g (valueIs v) (refusedBy c03)))) ≡ pick e (failsWith k c02) (pick (not g) (failsWith k c03) (pick b (failsWith k c05) (asksWith k v)))
   address-cases v true g b q = refl
   address-cases v false true true q = rw q refl
   address-cases v false true false q = rw q refl
   address-cases v false false b q = refl
 
-  bare-cases : (e : Bool) → askedWith k (pick e (valueIs 0) (refusedBy c03)) ≡ pick (not e) (k .fails c03) (k .asks 0)
+  bare-cases : (e : Bool) → askedWith k (pick e (valueIs 0) (refusedBy c03)) ≡ pick (not e) (failsWith k c03) (asksWith k 0)
   bare-cases true = refl
   bare-cases false = refl
 
   abbrev ownStages : Kind → List ℕ → List Stage
   ownStages d x =
-      (isUnknown d, k .fails c01) ∷ (isAbsent d x, k .fails c02) ∷ (isMalformed d x, k .fails c03) ∷ (isBeyond d x, k .fails c05) ∷ []
+      (isUnknown d, failsWith k c01) ∷ (isAbsent d x, failsWith k c02) ∷ (isMalformed d x, failsWith k c03) ∷ (isBeyond d x, failsWith k c05) ∷ []
 
-  by-kind : (d : Kind) (x : List ℕ) → askedWith k (parameterOf d x) ≡ firstOf (ownStages d x) (k .asks (valueOf d x))
+  by-kind : (d : Kind) (x : List ℕ) → askedWith k (parameterOf d x) ≡ firstOf (ownStages d x) (asksWith k (valueOf d x))
   unfolding parameterOf readAs
   by-kind bare x = bare-cases (isEmpty x)
   by-kind (number n) x = need-cases (readAs (number n) x .value) (isEmpty x) (readAs (number n) x .good)
@@ -50,19 +50,19 @@ module _ (k : Command) where
   by-kind unknown x = refl
 
 -- the stages after the sum, of a line without its sum
-body-stages : (u : List ℕ) → asksOf u ≡ pick (isEmpty u) (One Nothing) (firstOf (ownStages (commandOf (upperAll (wordOf u))) (commandOf (upperAll (wordOf u)) .kind) (parameterText u)) (commandOf (upperAll (wordOf u)) .asks (valueOf (commandOf (upperAll (wordOf u)) .kind) (parameterText u))))
+body-stages : (u : List ℕ) → asksOf u ≡ pick (isEmpty u) (One Nothing) (firstOf (ownStages (commandOf (upperAll (wordOf u))) (kindOf (commandOf (upperAll (wordOf u)))) (parameterText u)) (asksWith (commandOf (upperAll (wordOf u))) (valueOf (kindOf (commandOf (upperAll (wordOf u)))) (parameterText u))))
 unfolding asksOf askedBy
-body-stages u = ap (pick (isEmpty u) (One Nothing)) (by-kind (commandOf (upperAll (wordOf u))) (commandOf (upperAll (wordOf u)) .kind) (parameterText u))
+body-stages u = ap (pick (isEmpty u) (One Nothing)) (by-kind (commandOf (upperAll (wordOf u))) (kindOf (commandOf (upperAll (wordOf u)))) (parameterText u))
 
 -- THE VERDICTS IN TURN
-pub verdicts : (t : List ℕ) (spoiled : Bool) → heardOf t spoiled .asks ≡ firstOf (stages t spoiled) (commandIn t .asks (valueOf (commandIn t .kind) (givenIn t)))
+pub verdicts : (t : List ℕ) (spoiled : Bool) → heardOf t spoiled .asks ≡ firstOf (stages t spoiled) (asksWith (commandIn t) (valueOf (kindIn t) (givenIn t)))
 unfolding heardOf
 verdicts t true = refl
 verdicts t false = bySum (hasSum t) (rightSum t) refl
   where
     bySum : (h r : Bool) → hasSum t ≡ h
         → pick h (pick r (heardAs (asksOf (summedPart t)) true) (heardAs (Error c04) false)) (heardAs (asksOf t) false) .asks
-        ≡ pick (h && not r) (Error c04) (pick (isEmpty (pick h (summedPart t) t)) (One Nothing) (firstOf (ownStages (commandOf (upperAll (wordOf (pick h (summedPart t) t)))) (commandOf (upperAll (wordOf (pick h (summedPart t) t))) .kind) (parameterText (pick h (summedPart t) t))) (commandOf (upperAll (wordOf (pick h (summedPart t) t))) .asks (valueOf (commandOf (upperAll (wordOf (pick h (summedPart t) t))) .kind) (parameterText (pick h (summedPart t) t))))))
+        ≡ pick (h && not r) (Error c04) (pick (isEmpty (pick h (summedPart t) t)) (One Nothing) (firstOf (ownStages (commandOf (upperAll (wordOf (pick h (summedPart t) t)))) (kindOf (commandOf (upperAll (wordOf (pick h (summedPart t) t))))) (parameterText (pick h (summedPart t) t))) (asksWith (commandOf (upperAll (wordOf (pick h (summedPart t) t)))) (valueOf (kindOf (commandOf (upperAll (wordOf (pick h (summedPart t) t))))) (parameterText (pick h (summedPart t) t))))))
     bySum true true e = body-stages (summedPart t)
     bySum true false e = refl
     bySum false r e = body-stages t

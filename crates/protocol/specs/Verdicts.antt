@@ -10,7 +10,7 @@ use Rattle.supply.specs.State.{c05}
 use Rattle.asks.specs.declared.Asks.{Asks}
 use Rattle.asks.specs.declared.Asks.the-variants.{One, Error}
 use Rattle.parameters.specs.Parameters.{Kind, bare, number, switch, hex, address, unknown, c01, c02, c03, c04, readAs, isEmpty}
-use Rattle.asks.specs.Words.{Command, commandOf}
+use Rattle.asks.specs.Words.{Command, kindOf, failsWith, commandOf}
 use Rattle.asks.specs.Asked.{wordOf, parameterText}
 use Rattle.command.specs.Lines.{hasSum, rightSum, summedPart}
 
@@ -23,12 +23,15 @@ abbrev pub firstOf : List Stage → Asks → Asks
 firstOf [] a = a
 firstOf (e ∷ es) a = pick (e .0) (e .1) (firstOf es a)
 
--- the line without its sum, its command and its parameter
+-- the line without its sum, its command with what that takes, and its parameter
 abbrev pub bodyOf : List ℕ → List ℕ
 bodyOf t = pick (hasSum t) (summedPart t) t
 
 abbrev pub commandIn : List ℕ → Command
 commandIn t = commandOf (upperAll (wordOf (bodyOf t)))
+
+abbrev pub kindIn : List ℕ → Kind
+kindIn t = kindOf (commandIn t)
 
 abbrev pub givenIn : List ℕ → List ℕ
 givenIn t = parameterText (bodyOf t)
@@ -78,8 +81,8 @@ stages t spoiled =
     (spoiled, Error c01) ∷
     (hasSum t && not (rightSum t), Error c04) ∷
     (isEmpty (bodyOf t), One Nothing) ∷
-    (isUnknown (commandIn t .kind), commandIn t .fails c01) ∷
-    (isAbsent (commandIn t .kind) (givenIn t), commandIn t .fails c02) ∷
-    (isMalformed (commandIn t .kind) (givenIn t), commandIn t .fails c03) ∷
-    (isBeyond (commandIn t .kind) (givenIn t), commandIn t .fails c05) ∷
+    (isUnknown (kindIn t), failsWith (commandIn t) c01) ∷
+    (isAbsent (kindIn t) (givenIn t), failsWith (commandIn t) c02) ∷
+    (isMalformed (kindIn t) (givenIn t), failsWith (commandIn t) c03) ∷
+    (isBeyond (kindIn t) (givenIn t), failsWith (commandIn t) c05) ∷
     []

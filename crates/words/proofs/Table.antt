@@ -133,19 +133,26 @@ module _ {A : Type 0} (none : A) where
       byTest true s l r = absurd (omega (arith, ap length (same-eq (e .0) w s)))
       byTest false s l r = r
 
-  -- what holds of the default, and of each row whose word is as long as w, holds of what w finds
-  abbrev pub RowsHave : (A → Type 0) → List (Row A) → List ℕ → Type 0
-  RowsHave P [] w = Unit
-  RowsHave P (e ∷ es) w = (length (e .0) ≡ length w → P (e .1)) × RowsHave P es w
+  -- a test of a word's length and what stands beside it passes every row: it computes
+  abbrev pub everyRow : (ℕ → A → Bool) → List (Row A) → Bool
+  everyRow f [] = true
+  everyRow f (e ∷ es) = f (length (e .0)) (e .1) && everyRow f es
 
-  pub find-has : (P : A → Type 0) (t : List (Row A)) (w : List ℕ) → P none → RowsHave P t w → P (findWord none t w)
+  -- then it passes any word with what it finds, where it passes the default
+  pub find-passes :
+      (f : ℕ → A → Bool) (t : List (Row A)) → everyRow f t ≡ true
+      → (w : List ℕ) → f (length w) none ≡ true → f (length w) (findWord none t w) ≡ true
   unfolding findWord
-  find-has P [] w p h = p
-  find-has P (e ∷ t) w p h = byTest (sameWord (e .0) w) refl (find-has P t w p (h .1))
+  find-passes f [] h w p = p
+  find-passes f (e ∷ t) h w p =
+      let q = and-both (f (length (e .0)) (e .1)) (everyRow f t) h in
+      byTest (sameWord (e .0) w) refl (q .0) (find-passes f t (q .1) w p)
     where
-      byTest : (b : Bool) → sameWord (e .0) w ≡ b → P (findWord none t w) → P (pick b (e .1) (findWord none t w))
-      byTest true s r = h .0 (ap length (same-eq (e .0) w s))
-      byTest false s r = r
+      byTest :
+          (b : Bool) → sameWord (e .0) w ≡ b → f (length (e .0)) (e .1) ≡ true
+          → f (length w) (findWord none t w) ≡ true → f (length w) (pick b (e .1) (findWord none t w)) ≡ true
+      byTest true s here r = rw (← same-eq (e .0) w s) here
+      byTest false s here r = r
 
   -- 0 is no word's number
   find-zero : (t : List (Row A)) → findNumber none t 0 ≡ none

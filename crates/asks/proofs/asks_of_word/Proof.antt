@@ -117,23 +117,23 @@ bare-all-requires : tie.Need-bare-all-requires
 bare-all-requires c κs = search needs
 
 returns : tie.Need-returns
-unfolding findNumber
+unfolding findNumber askedBy
 returns c = c .set-one .ensures ∙ by-key _ (c .before .match .keys1)
 
 returns-2 : tie.Need-returns-2
-unfolding findNumber
+unfolding findNumber askedBy
 returns-2 c = c .set-one2 .ensures ∙ by-key _ (c .before .match .keys2)
 
 returns-3 : tie.Need-returns-3
-unfolding findNumber
+unfolding findNumber askedBy
 returns-3 c = c .set-one3 .ensures ∙ by-key _ (c .before .match .keys3)
 
 returns-4 : tie.Need-returns-4
-unfolding findNumber
+unfolding findNumber askedBy
 returns-4 c = c .bare-one .ensures ∙ by-key _ (c .before .match .keys4)
 
 returns-5 : tie.Need-returns-5
-unfolding findNumber
+unfolding findNumber askedBy
 returns-5 c = c .set-one4 .ensures ∙ by-key _ (c .before .match .keys5)
 
 returns-6 : tie.Need-returns-6
@@ -157,11 +157,11 @@ unfolding findNumber
 returns-10 c = c .fena-one .ensures ∙ by-key _ (c .before .match .keys10)
 
 returns-11 : tie.Need-returns-11
-unfolding findNumber
+unfolding findNumber askedBy
 returns-11 c = c .bare-one2 .ensures ∙ by-key _ (c .before .match .keys11)
 
 returns-12 : tie.Need-returns-12
-unfolding findNumber
+unfolding findNumber askedBy
 returns-12 c = c .bare-one3 .ensures ∙ by-key _ (c .before .match .keys12)
 
 returns-13 : tie.Need-returns-13
@@ -225,11 +225,11 @@ unfolding findNumber
 returns-27 c = c .select-one .ensures ∙ by-key _ (c .before .match .keys27)
 
 returns-28 : tie.Need-returns-28
-unfolding findNumber
+unfolding findNumber askedBy
 returns-28 c = c .set-all .ensures ∙ by-key _ (c .before .match .keys28)
 
 returns-29 : tie.Need-returns-29
-unfolding findNumber
+unfolding findNumber askedBy
 returns-29 c = c .set-all2 .ensures ∙ by-key _ (c .before .match .keys29)
 
 returns-30 : tie.Need-returns-30
@@ -237,7 +237,7 @@ unfolding findNumber
 returns-30 c = c .out-all .ensures ∙ by-key _ (c .before .match .keys30)
 
 returns-31 : tie.Need-returns-31
-unfolding findNumber
+unfolding findNumber askedBy
 returns-31 c = c .bare-all .ensures ∙ by-key _ (c .before .match .keys31)
 
 returns-32 : tie.Need-returns-32
