@@ -2,7 +2,7 @@
 use Prim.Native.Nat.{ℕ}
 use mathlib.Core.Path.{_≡_, refl, sym, ap, _∙_}
 use mathlib.Core.Bool.{Bool, true, false, true≢false, not}
-use mathlib.Core.List.{List, [], _∷_, _++_}
+use mathlib.Core.List.{List, [], _∷_, _++_, map}
 use lib.Dec.{eqb}
 use borrow.Author.Tests.{ne-eqb, not-true}
 use Rattle.base.specs.Choice.{pick}
@@ -16,10 +16,11 @@ use Rattle.supply.specs.declared.Supply.{Supply}
 use Rattle.supply.specs.Flt.{onOf}
 use Rattle.answers.specs.Answers.{answerOf}
 use Rattle.plain.specs.Plain.{grammar, replyTo}
+use Rattle.plain.specs.Unaddressed.{unaddressed}
 use Rattle.slots.specs.declared.Rack.{Rack}
 use Rattle.rack.specs.Demand3.{supplyAt}
 use Rattle.rack.proofs.Isolation.{isolated-code}
-use Rattle.example.specs.Repeats.{SameSupply, SharesRepeat, elsewhere, concerns, NeighboursDoNotCount}
+use Rattle.example.specs.Repeats.{SameSupply, SharesRepeat, UnaddressedSharesRepeat, elsewhere, concerns, NeighboursDoNotCount}
 
 same : (m : ℕ) (r : Rack) (a : ℕ) (r₂ : Rack) (b : ℕ) → supplyAt r a ≡ supplyAt r₂ b → SameSupply m r a r₂ b
 same m r a r₂ b e =
@@ -33,9 +34,13 @@ same m r a r₂ b e =
 is-fitted : (m : ℕ) → (m ≡ 255 → ⊥) → not (eqb m 255) ≡ true
 is-fitted m n = rw (ne-eqb m 255 n) refl
 
+pub unaddressed-shares-repeat : UnaddressedSharesRepeat
+unaddressed-shares-repeat u u₂ calls calls₂ r r₂ a b g g₂ n m e =
+    same _ r a r₂ b (isolated-code u calls a (is-fitted _ n) .alike-unaddressed r g u₂ calls₂ r₂ b g₂ m e)
+
 pub shares-repeat : SharesRepeat
 shares-repeat u u₂ calls calls₂ r r₂ a b g g₂ n m e =
-    same _ r a r₂ b (isolated-code u calls a (is-fitted _ n) .alike r g u₂ calls₂ r₂ b g₂ m e)
+    unaddressed-shares-repeat u u₂ calls calls₂ r r₂ a b g g₂ n m (ap (map unaddressed) e)
 
 module _ (u : Setup) (a : ℕ) where
   -- what slot a takes of a stream, where these bytes have come since the last CR and this slot is selected

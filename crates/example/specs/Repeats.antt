@@ -2,7 +2,7 @@
 use Prim.Native.Nat.{ℕ}
 use mathlib.Core.Path.{_≡_}
 use mathlib.Core.Bool.{Bool, true, false, not, _&&_}
-use mathlib.Core.List.{List, [], _∷_}
+use mathlib.Core.List.{List, [], _∷_, map}
 use lib.Dec.{eqb}
 use Rattle.wire.specs.Machine.{keep}
 use Rattle.wire.specs.Wire.{Item, byte, event, Entry, Call, modelAt, parse}
@@ -12,6 +12,7 @@ use Rattle.supply.specs.declared.Query.{Query}
 use Rattle.supply.specs.Flt.{onOf}
 use Rattle.answers.specs.Answers.{answerOf}
 use Rattle.plain.specs.Plain.{grammar, replyTo}
+use Rattle.plain.specs.Unaddressed.{unaddressed}
 use Rattle.slots.specs.declared.Rack.{Rack}
 use Rattle.rack.specs.Demand3.{Run, supplyAt}
 
@@ -31,6 +32,16 @@ SharesRepeat =
     → (modelAt u a ≡ 255 → ⊥)
     → modelAt u a ≡ modelAt u₂ b
     → shareOf grammar u calls a ≡ shareOf grammar u₂ calls₂ b
+    → SameSupply (modelAt u a) r a r₂ b
+
+-- shares equal but for the address that each field holds: the same, where the supplies stand at two addresses
+abbrev pub UnaddressedSharesRepeat : Type 0
+UnaddressedSharesRepeat =
+    (u u₂ : Setup) (calls calls₂ : List Call) (r r₂ : Rack) (a b : ℕ)
+    → Run u calls r → Run u₂ calls₂ r₂
+    → (modelAt u a ≡ 255 → ⊥)
+    → modelAt u a ≡ modelAt u₂ b
+    → map unaddressed (shareOf grammar u calls a) ≡ map unaddressed (shareOf grammar u₂ calls₂ b)
     → SameSupply (modelAt u a) r a r₂ b
 
 -- a call that is no concern of slot a: it is refused, or it is a field of tags 2 to 5 for another address

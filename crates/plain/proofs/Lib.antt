@@ -1,2 +1,3 @@
 pub mod Isolation
 pub mod Classes
+pub mod Unaddressed

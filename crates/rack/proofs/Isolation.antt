@@ -2,13 +2,16 @@
 use Prim.Native.Nat.{ℕ}
 use mathlib.Core.Path.{_≡_, sym, ap, subst, _∙_}
 use mathlib.Core.List.{List, [], _∷_}
-use Rattle.wire.specs.Wire.{Call}
-use Rattle.wire.specs.Rack.{callOf, after, runFrom, run, slot}
+use mathlib.Core.Bool.{true}
+use Rattle.wire.specs.Wire.{Call, modelAt, fitted}
+use Rattle.wire.specs.Share.{shareOf}
+use Rattle.wire.specs.Rack.{callOf, after, runFrom, run, slot, plain}
 use Rattle.wire.specs.Rack as wire
 use Rattle.wire.specs.declared.Setup.{Setup}
 use Rattle.supply.specs.declared.Supply.{Supply}
-use Rattle.plain.specs.Plain.{plainSupply}
+use Rattle.plain.specs.Plain.{plainSupply, grammar}
 use Rattle.plain.proofs.Isolation.{isolated}
+use Rattle.plain.proofs.Unaddressed.{addresses-unread}
 use Rattle.slots.specs.declared.Rack.{Rack}
 use Rattle.calls.specs.declared.Answer.{Answer}
 use Rattle.slots.specs.View.{viewOf, Able}
@@ -45,13 +48,22 @@ run-seen u calls r g =
 slot-is : (u : Setup) (calls : List Call) (r : Rack) (a : ℕ) → Run u calls r → slot plainSupply (run plainSupply u calls) a ≡ supplyAt r a
 slot-is u calls r a g = ap (λ (x : wire.Rack Supply). slot plainSupply x a) (sym (run-seen u calls r g .is))
 
+ends-as : (u : Setup) (calls : List Call) (r : Rack) (a : ℕ) → fitted u a ≡ true → Run u calls r
+    → supplyAt r a ≡ plain plainSupply (modelAt u a) (shareOf grammar u calls a)
+ends-as u calls r a f g = sym (slot-is u calls r a g) ∙ isolated u calls a f .ends
+
 -- DEMAND 3, for every setup and every list of calls
 pub isolated-code : (u : Setup) (calls : List Call) → Isolated u calls
 isolated-code u calls a f =
     let d = isolated u calls a f in
     record {
-      ends = λ r g. sym (slot-is u calls r a g) ∙ d .ends;
+      ends = λ r g. ends-as u calls r a f g;
       alike = λ r g u₂ calls₂ r₂ b g₂ m e. sym (slot-is u calls r a g) ∙ d .alike u₂ calls₂ b m e ∙ slot-is u₂ calls₂ r₂ b g₂;
+      alike-unaddressed = λ r g u₂ calls₂ r₂ b g₂ m e.
+          ends-as u calls r a f g
+          ∙ addresses-unread (modelAt u a) (shareOf grammar u calls a) (shareOf grammar u₂ calls₂ b) e
+          ∙ ap (λ (n : ℕ). plain plainSupply n (shareOf grammar u₂ calls₂ b)) m
+          ∙ sym (ends-as u₂ calls₂ r₂ b (rw m at f) g₂);
       margins = λ past rest r e g. let w = rw (slot-is u past r a g) at (d .invariant past rest e) in (w .uvl-margin, w .ovp-margin);
       limits = λ past rest r e g. rw (slot-is u past r a g) at (d .invariant past rest e);
       calls-off = λ k past rest r e g t. rw (slot-is u past r a g) at (d .calls-off k past rest e t);

@@ -2,7 +2,7 @@
 use Prim.Native.Nat.{ℕ, _*_, _≤_}
 use mathlib.Core.Path.{_≡_}
 use mathlib.Core.Bool.{true, false}
-use mathlib.Core.List.{List, [], _∷_, _++_}
+use mathlib.Core.List.{List, [], _∷_, _++_, map}
 use lib.ListN.{length, getD}
 use Rattle.wire.specs.declared.Setup.{Setup}
 use Rattle.wire.specs.Wire.{Entry, Call, modelAt, fitted}
@@ -15,6 +15,7 @@ use Rattle.supply.specs.Flt.{onOf}
 use Rattle.settings.specs.Lawful.{Lawful}
 use Rattle.acts.specs.Releases.{Trip, isSet}
 use Rattle.plain.specs.Plain.{plainSupply, grammar, trips, stepOf, releasesOf}
+use Rattle.plain.specs.Unaddressed.{unaddressed}
 use Rattle.slots.specs.declared.Rack.{Rack}
 use Rattle.calls.specs.declared.Answer.{Answer}
 use Rattle.rack.specs.declared.Fitted.{Fitted}
@@ -63,6 +64,12 @@ pub record AtAddress (u : Setup) (calls : List Call) (a : ℕ) : Type 0 where
       → (u₂ : Setup) (calls₂ : List Call) (r₂ : Rack) (b : ℕ) → Run u₂ calls₂ r₂
       → modelAt u a ≡ modelAt u₂ b
       → shareOf grammar u calls a ≡ shareOf grammar u₂ calls₂ b
+      → supplyAt r a ≡ supplyAt r₂ b
+  -- and so do shares that are equal once the address that each field holds is taken off, so that a and b may differ
+  pub alike-unaddressed :
+      (r : Rack) → Run u calls r
+      → (u₂ : Setup) (calls₂ : List Call) (r₂ : Rack) (b : ℕ) → Run u₂ calls₂ r₂ → modelAt u a ≡ modelAt u₂ b
+      → map unaddressed (shareOf grammar u calls a) ≡ map unaddressed (shareOf grammar u₂ calls₂ b)
       → supplyAt r a ≡ supplyAt r₂ b
   -- the voltage margins, and with them the limits of the model, hold after every beginning of the list
   pub margins : (past rest : List Call) (r : Rack) → calls ≡ past ++ rest → Run u past r

@@ -1,0 +1,63 @@
+-- THE SAME LIST AT ANOTHER ADDRESS: a cell of model 0, worked by knob, keys and samples, in slot 6 of one rack and in slot 9 of another.
+use Prim.Native.Nat.{ℕ, _/_, _%_}
+use mathlib.Core.Path.{_≡_}
+use mathlib.Core.List.{List, [], _∷_, _++_}
+use mathlib.Core.Bool.{true, false}
+use lib.ListN.{replicate}
+use Rattle.wire.specs.Wire.{Call}
+use Rattle.wire.specs.Share.{shareOf}
+use Rattle.supply.specs.declared.Supply.{Supply}
+use Rattle.plain.specs.Plain.{grammar}
+use Rattle.slots.specs.declared.Rack.{Rack}
+use Rattle.rack.specs.Demand3.{Run, setupOf, supplyAt}
+use Rattle.example.specs.Worked.{fittingList, serial, sample}
+
+-- a field of tag 2, and one of tag 3 with a step below 65,536
+abbrev pub key : ℕ → ℕ → Call
+key a k = record { bytes = 2 ∷ 0 ∷ 2 ∷ a ∷ k ∷ []; room = 512 }
+
+abbrev pub knob : ℕ → ℕ → ℕ → Call
+knob a t d = record { bytes = 3 ∷ 0 ∷ 6 ∷ a ∷ t ∷ 0 ∷ 0 ∷ d / 256 ∷ d % 256 ∷ []; room = 512 }
+
+-- slot 6: PV turned to 5 V and PC to 10 A, foldback armed, the output on, and a sample of 10 A; the neighbour works meanwhile
+unfoldable pub here : List Call
+here =
+    knob 6 0 50000 ∷ key 9 0 ∷ knob 6 1 10000 ∷ key 6 1 ∷ serial "ADR 9\rPV 3\r" ∷ key 6 0 ∷
+    sample 6 40000 5000 ∷ serial "ADR 6\rFLT?\r" ∷ []
+
+-- slot 9 of a rack with no other supply
+unfoldable pub listThere : List ℕ
+listThere = replicate 9 255 ++ 0 ∷ replicate 21 255
+
+unfoldable pub there : List Call
+there = serial "ADR 9\r" ∷ knob 9 0 50000 ∷ knob 9 1 10000 ∷ key 9 1 ∷ key 9 0 ∷ sample 9 40000 5000 ∷ serial "FLT?\r" ∷ []
+
+-- both end with the FOLD trip, the output still ordered, in local mode
+unfoldable pub foldedBack : Supply
+foldedBack =
+    record {
+      pv = 50000;
+      pc = 10000;
+      ovp = 75000;
+      uvl = 0;
+      want = true;
+      armed = true;
+      ast = false;
+      mode = 0;
+      lines = 0;
+      «fold_trip» = true;
+      «ovp_trip» = false;
+      fena = 0;
+      feve = 0;
+      «volt_count» = 40000;
+      «amp_count» = 5000;
+    }
+
+pub record Moved : Type 0 where
+  -- the shares are not the same entries: each field holds its own address
+  pub shares-differ : shareOf grammar (setupOf fittingList) here 6 ≡ shareOf grammar (setupOf listThere) there 9 → ⊥
+  -- there are such runs; they end alike, and so
+  pub runs-here : (r : Rack) × Run (setupOf fittingList) here r
+  pub runs-there : (r : Rack) × Run (setupOf listThere) there r
+  pub repeated : (r r₂ : Rack) → Run (setupOf fittingList) here r → Run (setupOf listThere) there r₂ → supplyAt r 6 ≡ supplyAt r₂ 9
+  pub ends-as : (r : Rack) → Run (setupOf fittingList) here r → supplyAt r 6 ≡ foldedBack
