@@ -13,6 +13,7 @@ use Rattle.supply.specs.declared.Target.the-variants.{Pv, Pc, Ovp, Uvl}
 use Rattle.supply.specs.declared.Order.{Order}
 use Rattle.supply.specs.declared.Order.the-variants.{Set, Ovm, Out, Fld, Ast, Rmt, Fena, Cls, Rst}
 use Rattle.supply.specs.declared.Query.{Query}
+use Rattle.supply.specs.declared.Act.{Act}
 use Rattle.supply.specs.declared.Act.the-variants.{Obey, Ask}
 use Rattle.supply.specs.Flt.{fltOf, settled}
 use Rattle.supply.proofs.Gains.{settled-idle}
@@ -31,7 +32,7 @@ set-flt Ovp x s = refl
 set-flt Uvl x s = refl
 
 -- nor does FEVE
-cleared-flt : (t : Bool) (s : Supply) → fltOf (cleared t s) ≡ fltOf s
+pub cleared-flt : (t : Bool) (s : Supply) → fltOf (cleared t s) ≡ fltOf s
 unfolding fltOf
 cleared-flt true s = refl
 cleared-flt false s = refl
@@ -61,9 +62,13 @@ module _ (m : ℕ) (s : Supply) where
       byCode false e = rw (refused-keeps o e) (settled-idle s s refl)
 
   -- what is refused changes nothing
+  pub unmoved : (a : Act) → (codeOf m s a ≡ 0 → ⊥) → performed m s a ≡ s
+  unfolding performed
+  unmoved a n = pick-false _ _ _ (ne-eqb (codeOf m s a) 0 n)
+
   pub refused : (o : Order) {k : ℕ} → k ≡ orderCode m s o → (k ≡ 0 → ⊥) → s ≡ performed m s (Obey o)
-  unfolding performed codeOf
-  refused o e ne = sym (pick-false _ _ _ (ne-eqb (orderCode m s o) 0 (λ z. ne (e ∙ z))))
+  unfolding codeOf
+  refused o e ne = sym (unmoved (Obey o) (λ z. ne (e ∙ z)))
 
   -- an accepted figure is stored, and that is all; its low 32 bits are all of it
   pub set-done : (t : Target) (n : ℕ) → orderCode m s (Set t n) ≡ 0 → remoteBy t (withSetting t (n % 0x100000000) s) ≡ performed m s (Obey (Set t n))

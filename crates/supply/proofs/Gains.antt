@@ -5,12 +5,10 @@ use Prim.Native.Nat.{ℕ, zero, suc, _+_, _-_, _*_, _/_, _%_, _^_, _<_}
 use native.Mathlib.Nat.{lt-of-le-of-lt}
 use native.Mathlib.Omega.{arith}
 use lib.Dec.{eqb, lit<}
-use lib.Bits.{bitAnd, and-le-r, or-lt, and-zero-l, or-zero-r}
+use lib.Bits.{bitAnd, and-le-l, and-le-r, or-lt, or-zero-r}
+use borrow.Author.Tests.{eqb-false}
 use Rattle.base.specs.Choice.{bit}
-use Rattle.base.specs.Lists.{tabulate}
 use Rattle.base.specs.Bits.{bitAt}
-use Rattle.base.proofs.Lists.{getD-tabulate}
-use Rattle.base.proofs.Table.{Check, eq, everywhere}
 use Rattle.base.proofs.Bits.{bit-or, bit-and}
 use Rattle.supply.specs.declared.Supply.{Supply}
 use Rattle.supply.specs.Flt.{fltOf, settled, FeveBit}
@@ -48,23 +46,59 @@ bit-not (suc (suc (suc (suc (suc (suc zero)))))) x h l = opposite (x / 2 ^ 6 % 2
 bit-not (suc (suc (suc (suc (suc (suc (suc zero))))))) x h l = opposite (x / 2 ^ 7 % 2) ((255 - x) / 2 ^ 7 % 2) (omega arith)
 bit-not (suc (suc (suc (suc (suc (suc (suc (suc k)))))))) x h l = absurd (omega arith)
 
+-- what an event adds to FEVE, and bit k of it
+abbrev gain : Supply → Supply → ℕ
+gain before after = bitAnd (bitAnd (fltOf after) (255 - fltOf before)) (before .fena)
+
+abbrev rises : Supply → Supply → ℕ → Bool
+rises before after k = (bitAt k (fltOf after) && not (bitAt k (fltOf before))) && bitAt k (before .fena)
+
+gain-bit : (before after : Supply) (k : ℕ) → k < 8 → bitAt k (gain before after) ≡ rises before after k
+gain-bit before after k h =
+    bit-and k (bitAnd (fltOf after) (255 - fltOf before)) (before .fena)
+    ∙ ap (λ (x : Bool). x && bitAt k (before .fena))
+    (bit-and k (fltOf after) (255 - fltOf before) ∙ ap (λ (x : Bool). bitAt k (fltOf after) && x) (bit-not k (fltOf before) h (flt-lt before)))
+
 -- FEVE BIT BY BIT
 pub feve-bit : (before after : Supply) (k : ℕ) → k < 8 → FeveBit before after k
 unfolding settled
 feve-bit before after k h =
-    bit-or k (after .feve) (bitAnd (bitAnd (fltOf after) (255 - fltOf before)) (before .fena))
-    ∙ ap (λ (x : Bool). bitAt k (after .feve) || x)
-    (bit-and k (bitAnd (fltOf after) (255 - fltOf before)) (before .fena)
-    ∙ ap (λ (x : Bool). x && bitAt k (before .fena)) (bit-and k (fltOf after) (255 - fltOf before) ∙ ap (λ (x : Bool). bitAt k (fltOf after) && x) (bit-not k (fltOf before) h (flt-lt before))))
+    bit-or k (after .feve) (gain before after) ∙ ap (λ (x : Bool). bitAt k (after .feve) || x) (gain-bit before after k h)
 
--- no byte has a bit in common with its complement: a test of all 256
-abbrev apart : ℕ → Check
-apart x = eq (bitAnd x (255 - x)) 0
+-- a bit that is not set
+even : (x : ℕ) → eqb (x % 2) 1 ≡ false → x % 2 ≡ 0
+even x e = let n = eqb-false (x % 2) 1 e in byRest (x % 2) n (omega arith)
+  where
+    byRest : (r : ℕ) → (r ≡ 1 → ⊥) → r < 2 → r ≡ 0
+    byRest zero n l = refl
+    byRest (suc zero) n l = absurd (n refl)
+    byRest (suc (suc r)) n l = absurd (omega arith)
 
-none-common : (x : ℕ) → x < 256 → bitAnd x (255 - x) ≡ 0
-none-common x h = rw (getD-tabulate 256 (λ i. i) x 0 h) at (everywhere apart (tabulate 256 (λ i. i)) 0 tt tt x)
+-- a byte with no bit set is 0: each bit, from the highest on, halves what it can be
+no-bit : (x : ℕ) → x < 256 → ((k : ℕ) → k < 8 → bitAt k x ≡ false) → x ≡ 0
+unfolding bitAt
+no-bit x l off =
+    let below128 : x < 128 = omega (arith, even (x / 128) (off 7 (lit< tt))) in
+    let below64 : x < 64 = omega (arith, even (x / 64) (off 6 (lit< tt))) in
+    let below32 : x < 32 = omega (arith, even (x / 32) (off 5 (lit< tt))) in
+    let below16 : x < 16 = omega (arith, even (x / 16) (off 4 (lit< tt))) in
+    let below8 : x < 8 = omega (arith, even (x / 8) (off 3 (lit< tt))) in
+    let below4 : x < 4 = omega (arith, even (x / 4) (off 2 (lit< tt))) in
+    let below2 : x < 2 = omega (arith, even (x / 2) (off 1 (lit< tt))) in
+    omega (arith, even (x / 1) (off 0 (lit< tt)))
 
--- an event that leaves FLT as it was gains nothing
-pub settled-idle : (before after : Supply) → fltOf after ≡ fltOf before → settled before after ≡ after
+-- an event in which no enabled bit rises gains nothing
+pub settled-none : (before after : Supply) → ((k : ℕ) → k < 8 → rises before after k ≡ false) → settled before after ≡ after
 unfolding settled
-settled-idle before after e = rw (e, none-common (fltOf before) (flt-lt before), and-zero-l (before .fena), or-zero-r (after .feve)) refl
+settled-none before after none =
+    let small : gain before after < 256 = lt-of-le-of-lt (and-le-l (bitAnd (fltOf after) (255 - fltOf before)) (before .fena)) (lt-of-le-of-lt (and-le-l (fltOf after) (255 - fltOf before)) (flt-lt after)) in
+    let zero : gain before after ≡ 0 = no-bit (gain before after) small (λ k h. gain-bit before after k h ∙ none k h) in
+    rw (zero, or-zero-r (after .feve)) refl
+
+-- nor does one that leaves FLT as it was
+pub settled-idle : (before after : Supply) → fltOf after ≡ fltOf before → settled before after ≡ after
+settled-idle before after e = settled-none before after (λ k h. rw e (unmoved (bitAt k (fltOf before)) (bitAt k (before .fena))))
+  where
+    unmoved : (x y : Bool) → ((x && not x) && y) ≡ false
+    unmoved true y = refl
+    unmoved false y = refl

@@ -1,0 +1,35 @@
+-- WHAT AN EVENT LEAVES IN FEVE, bit by bit. The event is a whole act, and FLT after it that of the supply that the act leaves.
+use Prim.Native.Nat.{ℕ, _<_}
+use mathlib.Core.Path.{_≡_}
+use mathlib.Core.Bool.{Bool, true, false, not, _&&_, _||_}
+use Rattle.base.specs.Bits.{bitAt}
+use Rattle.supply.specs.declared.Supply.{Supply}
+use Rattle.supply.specs.declared.Act.{Act}
+use Rattle.supply.specs.declared.Act.the-variants.{Lines, Sample, Press, Turn, Obey, Ask, Nothing}
+use Rattle.supply.specs.Flt.{fltOf}
+use Rattle.acts.specs.Acts.{codeOf, clearingQuery, clearingOrder, performed}
+
+-- the acts that clear FEVE: FEVE?, CLS and RST
+abbrev pub clearsFeve : Act → Bool
+clearsFeve (Ask q) = clearingQuery q
+clearsFeve (Obey o) = clearingOrder o
+clearsFeve (Lines b) = false
+clearsFeve (Sample v a) = false
+clearsFeve (Press k) = false
+clearsFeve (Turn t raw) = false
+clearsFeve Nothing = false
+
+-- fault bit k was 0, is 1 after the act, and FENA enabled it as it stood before
+abbrev pub gains : ℕ → Supply → Act → ℕ → Bool
+gains m s a k = (bitAt k (fltOf (performed m s a)) && not (bitAt k (fltOf s))) && bitAt k (s .fena)
+
+pub record FeveGain (m : ℕ) (s : Supply) (a : Act) : Type 0 where
+  -- a refused order leaves all as it was, FEVE too
+  pub refused : (codeOf m s a ≡ 0 → ⊥) → performed m s a ≡ s
+  -- after an accepted act that does not clear it, FEVE has the bits that it had and those that it gains
+  pub bits : codeOf m s a ≡ 0 → clearsFeve a ≡ false → (k : ℕ) → k < 8
+      → bitAt k (performed m s a .feve) ≡ (bitAt k (s .feve) || gains m s a k)
+  -- so FEVE stays the same number where no bit is gained
+  pub none : clearsFeve a ≡ false → ((k : ℕ) → k < 8 → gains m s a k ≡ false) → performed m s a .feve ≡ s .feve
+  -- FEVE?, CLS and RST leave it 0, whatever rose
+  pub clears : clearsFeve a ≡ true → performed m s a .feve ≡ 0
