@@ -6,9 +6,9 @@ use Rattle.supply.specs.declared.Order.{Order}
 use Rattle.supply.specs.declared.Order.the-variants.{Set, Ovm, Out, Fld, Ast, Rmt, Fena, Cls, Rst}
 use Rattle.supply.specs.declared.Query.{Query}
 use Rattle.supply.specs.declared.Query.the-variants as query
-use Rattle.supply.specs.declared.Act.{Act}
 use Rattle.supply.specs.declared.Act.the-variants.{Lines, Sample, Press, Turn, Obey, Ask, Nothing}
-use Rattle.acts.specs.Acts.{clearingQuery, clearingOrder, clearingAct, Clearing}
+use Rattle.acts.specs.Acts.{clearingQuery, clearingOrder}
+use Rattle.acts.specs.Feve.{ClearingActs}
 
 query-is : (q : Query) → clearingQuery q ≡ true → q ≡ query.Feve
 unfolding clearingQuery
@@ -39,15 +39,12 @@ order-is (Ast b) e = absurd (false≢true e)
 order-is (Rmt k) e = absurd (false≢true e)
 order-is (Fena b) e = absurd (false≢true e)
 
-act-is : (a : Act) → clearingAct a ≡ true → (a ≡ Obey Cls) ⊎ (a ≡ Obey Rst)
-unfolding clearingAct
-act-is (Obey o) e = ⊎-elim (λ p. inl (ap Obey p)) (λ p. inr (ap Obey p)) (order-is o e)
-act-is (Lines b) e = absurd (false≢true e)
-act-is (Sample v a) e = absurd (false≢true e)
-act-is (Press k) e = absurd (false≢true e)
-act-is (Turn t raw) e = absurd (false≢true e)
-act-is (Ask q) e = absurd (false≢true e)
-act-is Nothing e = absurd (false≢true e)
-
-pub clearing : Clearing
-clearing = record { query-is = query-is; order-is = order-is; act-is = act-is }
+-- WHAT CLEARS FEVE
+pub clearing-acts : ClearingActs
+clearing-acts (Ask q) e = inl (ap Ask (query-is q e))
+clearing-acts (Obey o) e = inr (⊎-elim (λ p. inl (ap Obey p)) (λ p. inr (ap Obey p)) (order-is o e))
+clearing-acts (Lines b) e = absurd (false≢true e)
+clearing-acts (Sample v a) e = absurd (false≢true e)
+clearing-acts (Press k) e = absurd (false≢true e)
+clearing-acts (Turn t raw) e = absurd (false≢true e)
+clearing-acts Nothing e = absurd (false≢true e)

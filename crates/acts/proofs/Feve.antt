@@ -1,7 +1,8 @@
 -- FEVE after an act, bit by bit: the first stage moves it only to clear it, and what comes behind the first stage leaves FLT alone.
 use Prim.Native.Nat.{ℕ, _<_}
 use mathlib.Core.Path.{_≡_, refl, sym, ap, _∙_}
-use mathlib.Core.Bool.{Bool, true, false, not, _&&_, _||_, true≢false, false≢true}
+use mathlib.Core.Bool.{Bool, true, false, not, _&&_, _||_, true≢false}
+use mathlib.Core.Logic.{⊎-elim}
 use lib.Dec.{eqb}
 use borrow.Author.Tests.{eq-eqb, eqb-true}
 use Rattle.base.specs.Choice.{pick}
@@ -15,43 +16,36 @@ use Rattle.supply.specs.declared.Key.{Key}
 use Rattle.supply.specs.declared.Key.the-variants.{Output, Fold, Local}
 use Rattle.supply.specs.declared.Order.{Order}
 use Rattle.supply.specs.declared.Order.the-variants.{Set, Ovm, Out, Fld, Ast, Rmt, Fena, Cls, Rst}
+use Rattle.supply.specs.declared.Query.the-variants as query
 use Rattle.supply.specs.declared.Act.{Act}
 use Rattle.supply.specs.declared.Act.the-variants.{Lines, Sample, Press, Turn, Obey, Ask, Nothing}
 use Rattle.supply.specs.With.{withWant, withArmed, withMode}
 use Rattle.supply.specs.Flt.{fltOf, onOf, linesClear, settled}
 use Rattle.supply.proofs.Gains.{feve-bit, settled-none}
 use Rattle.settings.specs.Settings.{withSetting, stepped}
-use Rattle.samples.proofs.Cases.{sample-law}
+use Rattle.samples.specs.Samples.{sampled}
 use Rattle.events.specs.Events.{turnedOn, disarmed, pressed, turned}
 use Rattle.events.proofs.Cases.{lines-law, disarm-law}
 use Rattle.codes.specs.Codes.{orderCode}
 use Rattle.orders.specs.Orders.{remote, remoteBy, outDone, fldDone, ordered}
 use Rattle.acts.specs.Acts.{codeOf, clearingQuery, clearingOrder, clearingAct, acted, closed, performed}
 use Rattle.acts.specs.Feve.{clearsFeve, gains, FeveGain}
+use Rattle.acts.proofs.Clearing.{clearing-acts}
 use Rattle.acts.proofs.Idle.{cleared-flt, unmoved, query-done}
 
 -- FEVE?, CLS and RST end with FEVE 0
 module _ (m : ℕ) (s : Supply) where
-  order-clears : (o : Order) → clearingOrder o ≡ true → performed m s (Obey o) .feve ≡ 0
+  asked-clear : performed m s (Ask query.Feve) .feve ≡ 0
+  unfolding clearingQuery
+  asked-clear = rw (← query-done m s query.Feve) refl
+
+  closed-clear : (performed m s (Obey Cls) .feve ≡ 0) × (performed m s (Obey Rst) .feve ≡ 0)
   unfolding performed codeOf orderCode clearingAct clearingOrder
-  order-clears Cls e = refl
-  order-clears Rst e = refl
-  order-clears (Set t n) e = absurd (false≢true e)
-  order-clears Ovm e = absurd (false≢true e)
-  order-clears (Out b) e = absurd (false≢true e)
-  order-clears (Fld b) e = absurd (false≢true e)
-  order-clears (Ast b) e = absurd (false≢true e)
-  order-clears (Rmt k) e = absurd (false≢true e)
-  order-clears (Fena b) e = absurd (false≢true e)
+  closed-clear = (refl, refl)
 
   clears : (a : Act) → clearsFeve a ≡ true → performed m s a .feve ≡ 0
-  clears (Ask q) e = rw (← query-done m s q, e) refl
-  clears (Obey o) e = order-clears o e
-  clears (Lines b) e = absurd (false≢true e)
-  clears (Sample v a) e = absurd (false≢true e)
-  clears (Press k) e = absurd (false≢true e)
-  clears (Turn t raw) e = absurd (false≢true e)
-  clears Nothing e = absurd (false≢true e)
+  clears a e =
+      ⊎-elim (λ p. rw p asked-clear) (λ q. ⊎-elim (λ p. rw p (closed-clear .0)) (λ p. rw p (closed-clear .1)) q) (clearing-acts a e)
 
 -- FEVE as the supply s has it
 module _ (s : Supply) where
@@ -107,9 +101,9 @@ module _ (s : Supply) where
 
   -- the first stage leaves FEVE alone unless the act clears it
   acted-same : (m : ℕ) (a : Act) → clearsFeve a ≡ false → Same (acted m s a)
-  unfolding acted
+  unfolding acted sampled
   acted-same m (Lines b) e = rw (← lines-law s b) refl
-  acted-same m (Sample v a) e = rw (← sample-law m s v a) refl
+  acted-same m (Sample v a) e = refl
   acted-same m (Press k) e = key-same k
   acted-same m (Turn t raw) e = knob-same m t raw
   acted-same m (Obey o) e = order-same m o e

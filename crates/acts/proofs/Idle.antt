@@ -1,7 +1,7 @@
 -- Acts that need not go through all three stages: a refused order changes nothing, and by a figure for a setting or a query FEVE
 -- gains nothing.
 use mathlib.Core.Path.{_≡_, refl, sym, _∙_}
-use mathlib.Core.Bool.{Bool, true, false}
+use mathlib.Core.Bool.{Bool, true, false, true≢false}
 use Prim.Native.Nat.{ℕ, _%_}
 use lib.Dec.{eqb}
 use borrow.Author.Tests.{eq-eqb, ne-eqb}
@@ -41,8 +41,8 @@ module _ (m : ℕ) (s : Supply) where
   -- no order that clears FEVE is ever refused
   refused-keeps : (o : Order) → eqb (orderCode m s o) 0 ≡ false → clearingOrder o ≡ false
   unfolding clearingOrder orderCode
-  refused-keeps Cls e = e
-  refused-keeps Rst e = e
+  refused-keeps Cls e = absurd (true≢false e)
+  refused-keeps Rst e = absurd (true≢false e)
   refused-keeps (Set t n) e = refl
   refused-keeps Ovm e = refl
   refused-keeps (Out b) e = refl

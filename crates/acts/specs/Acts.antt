@@ -1,7 +1,5 @@
 -- Whatever a supply can be asked: whether it is refused, and what it leaves, in three stages.
 use Prim.Native.Nat.{ℕ}
-use mathlib.Core.Path.{_≡_}
-use mathlib.Core.Logic.{_⊎_}
 use mathlib.Core.Bool.{Bool, true, false}
 use lib.Dec.{eqb}
 use Rattle.base.specs.Choice.{pick}
@@ -81,12 +79,6 @@ clearingAct (Press k) = false
 clearingAct (Turn t raw) = false
 clearingAct (Ask q) = false
 clearingAct Nothing = false
-
--- WHAT CLEARS FEVE, the rows above in one place: of the queries FEVE?, of the orders CLS and RST, and no other act
-pub record Clearing : Type 0 where
-  pub query-is : (q : Query) → clearingQuery q ≡ true → q ≡ query.Feve
-  pub order-is : (o : Order) → clearingOrder o ≡ true → (o ≡ Cls) ⊎ (o ≡ Rst)
-  pub act-is : (a : Act) → clearingAct a ≡ true → (a ≡ Obey Cls) ⊎ (a ≡ Obey Rst)
 
 abbrev pub closed : Act → Supply → Supply
 closed a s = cleared (clearingAct a) s

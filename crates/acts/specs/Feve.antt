@@ -1,9 +1,12 @@
 -- WHAT AN EVENT LEAVES IN FEVE, bit by bit. The event is a whole act, and FLT after it that of the supply that the act leaves.
 use Prim.Native.Nat.{ℕ, _<_}
 use mathlib.Core.Path.{_≡_}
+use mathlib.Core.Logic.{_⊎_}
 use mathlib.Core.Bool.{Bool, true, false, not, _&&_, _||_}
 use Rattle.base.specs.Bits.{bitAt}
 use Rattle.supply.specs.declared.Supply.{Supply}
+use Rattle.supply.specs.declared.Order.the-variants.{Cls, Rst}
+use Rattle.supply.specs.declared.Query.the-variants as query
 use Rattle.supply.specs.declared.Act.{Act}
 use Rattle.supply.specs.declared.Act.the-variants.{Lines, Sample, Press, Turn, Obey, Ask, Nothing}
 use Rattle.supply.specs.Flt.{fltOf}
@@ -18,6 +21,10 @@ clearsFeve (Sample v a) = false
 clearsFeve (Press k) = false
 clearsFeve (Turn t raw) = false
 clearsFeve Nothing = false
+
+-- and no other act: the rows of `clearingQuery`, `clearingOrder` and of this in one place
+abbrev pub ClearingActs : Type 0
+ClearingActs = (a : Act) → clearsFeve a ≡ true → (a ≡ Ask query.Feve) ⊎ ((a ≡ Obey Cls) ⊎ (a ≡ Obey Rst))
 
 -- fault bit k was 0, is 1 after the act, and FENA enabled it as it stood before
 abbrev pub gains : ℕ → Supply → Act → ℕ → Bool
