@@ -14,7 +14,7 @@ use Rattle.words.specs.Words.{upperAll}
 use Rattle.asks.specs.Words.{Command, kindOf, asksWith, failsWith, commandOf, askedWith, askedBy}
 use Rattle.asks.specs.Asked.{wordOf, parameterText, asksOf}
 use Rattle.command.specs.Lines.{hasSum, rightSum, summedPart, heardAs, heardOf}
-use Rattle.protocol.specs.Verdicts.{Stage, firstOf, commandIn, kindIn, givenIn, isUnknown, isAbsent, isMalformed, isBeyond, valueOf, stages}
+use Rattle.protocol.specs.Verdicts.{Stage, firstOf, commandIn, kindIn, givenIn, isUnknown, isAbsent, isMalformed, isBeyond, drawsSum, valueOf, stages}
 
 module _ (k : Command) where
   -- a parameter that is needed: absent, malformed, or read
@@ -66,6 +66,19 @@ verdicts t false = bySum (hasSum t) (rightSum t) refl
     bySum true true e = body-stages (summedPart t)
     bySum true false e = refl
     bySum false r e = body-stages t
+
+-- A REPLY CARRIES A SUM exactly where the line has a right one and is not spoiled
+pub summed-when : (t : List ℕ) (spoiled : Bool) → heardOf t spoiled .summed ≡ drawsSum t spoiled
+unfolding heardOf
+summed-when t true = refl
+summed-when t false = bySum (hasSum t) (rightSum t)
+  where
+    bySum : (h r : Bool)
+        → pick h (pick r (heardAs (asksOf (summedPart t)) true) (heardAs (Error c04) false)) (heardAs (asksOf t) false) .summed
+        ≡ (h && r)
+    bySum true true = refl
+    bySum true false = refl
+    bySum false r = refl
 
 -- the first stage that applies decides, whatever stands after it
 abbrev pub NoneApplies : List Stage → Type 0

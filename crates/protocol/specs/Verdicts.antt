@@ -23,12 +23,15 @@ abbrev pub firstOf : List Stage → Asks → Asks
 firstOf [] a = a
 firstOf (e ∷ es) a = pick (e .0) (e .1) (firstOf es a)
 
--- the line without its sum, its command with what that takes, and its parameter
+-- the line without its sum, its word in capitals, its command with what that takes, and its parameter
 abbrev pub bodyOf : List ℕ → List ℕ
 bodyOf t = pick (hasSum t) (summedPart t) t
 
+abbrev pub wordIn : List ℕ → List ℕ
+wordIn t = upperAll (wordOf (bodyOf t))
+
 abbrev pub commandIn : List ℕ → Command
-commandIn t = commandOf (upperAll (wordOf (bodyOf t)))
+commandIn t = commandOf (wordIn t)
 
 abbrev pub kindIn : List ℕ → Kind
 kindIn t = kindOf (commandIn t)
@@ -71,6 +74,14 @@ isBeyond (switch n) x = false
 isBeyond hex x = false
 isBeyond address x = ltb 30 (readAs address x .value)
 
+-- it has a sum, and that is wrong
+abbrev pub isWronglySummed : List ℕ → Bool
+isWronglySummed t = hasSum t && not (rightSum t)
+
+-- its reply carries a sum: the line has one, which is right, and it is not spoiled
+abbrev pub drawsSum : List ℕ → Bool → Bool
+drawsSum t spoiled = not spoiled && (hasSum t && rightSum t)
+
 -- what a word takes where its parameter is good
 abbrev pub valueOf : Kind → List ℕ → ℕ
 valueOf k x = readAs k x .value
@@ -79,7 +90,7 @@ valueOf k x = readAs k x .value
 abbrev pub stages : List ℕ → Bool → List Stage
 stages t spoiled =
     (spoiled, Error c01) ∷
-    (hasSum t && not (rightSum t), Error c04) ∷
+    (isWronglySummed t, Error c04) ∷
     (isEmpty (bodyOf t), One Nothing) ∷
     (isUnknown (kindIn t), failsWith (commandIn t) c01) ∷
     (isAbsent (kindIn t) (givenIn t), failsWith (commandIn t) c02) ∷
