@@ -1,14 +1,17 @@
 -- The class of a line, part by part.
 use Prim.Native.Nat.{ℕ, _≤_}
 use mathlib.Core.Path.{_≡_, refl, sym, ap, _∙_}
-use mathlib.Core.List.{List, []}
-use mathlib.Core.Bool.{Bool, true, false, false≢true}
+use mathlib.Core.List.{List, [], _∷_}
+use mathlib.Core.Bool.{Bool, true, false, not, _&&_, _||_, true≢false, false≢true}
 use native.Mathlib.Omega.{arith}
 use lib.Dec.{eqb, ltb}
-use borrow.Author.Tests.{ltb-false}
+use lib.ListN.{length}
+use lib.Seq.{take-nil}
+use borrow.Author.Tests.{eqb-true, ltb-false}
 use Rattle.base.specs.Choice.{pick}
 use Rattle.base.proofs.Choice.{pick-keeps}
-use Rattle.words.specs.Words.{upperAll}
+use Rattle.words.specs.Words.{upperAll, isOneOf, findWord}
+use Rattle.words.proofs.Table.{find-where}
 use Rattle.wire.specs.Wire.{Class, select, faulty, global, other}
 use Rattle.supply.specs.declared.Supply.{Supply}
 use Rattle.supply.specs.declared.Act.the-variants.{Nothing}
@@ -16,13 +19,19 @@ use Rattle.supply.specs.State.{c05}
 use Rattle.parameters.specs.declared.Parameter.{Parameter}
 use Rattle.asks.specs.declared.Asks.{Asks}
 use Rattle.asks.specs.declared.Asks.the-variants.{Select, BadSelect, Everyone, Nobody, One, Error}
-use Rattle.parameters.specs.Parameters.{bare, address, c04, isEmpty, needed, within30, readAs, refusedBy, parameterOf}
-use Rattle.asks.specs.Words.{Command, toOne, ofOne, toAll, selecting, unknownWord, kindOfOrder, commandOf, askedBy}
+use Rattle.parameters.specs.Parameters.{bare, address, c01, c02, c03, c04, isEmpty, needed, within30, readAs, refusedBy, parameterOf}
+use Rattle.asks.specs.Words.{OrderWord, set, ovm, out, fld, ast, rmt, fena, cls, rst, kindOfOrder, orderWith}
+use Rattle.asks.specs.Words.{Command, toOne, ofOne, toAll, selecting, unknownWord, kindOf, asksWith, failsWith}
+use Rattle.asks.specs.Words.{commands, commandOf, askedBy}
 use Rattle.asks.specs.Asked.{wordOf, parameterText, asksOf}
 use Rattle.command.specs.Lines.{hasSum, rightSum, summedPart, heardAs, heardOf}
+use Rattle.texts.specs.Texts.{codeText, replyOf}
 use Rattle.protocol.specs.Sent.{repliedTo}
+use Rattle.protocol.specs.Verdicts.{Stage, firstOf, bodyOf, wordIn, commandIn, givenIn, isUnknown, isAbsent, isMalformed, isBeyond}
+use Rattle.protocol.specs.Verdicts.{isWronglySummed, drawsSum, valueOf}
+use Rattle.protocol.proofs.Verdicts.{verdicts, summed-when}
 use Rattle.plain.specs.Plain.{classBy, classOf}
-use Rattle.plain.specs.Classes.{Classes}
+use Rattle.plain.specs.Classes.{adrWord, globalWords, classFor, Classes}
 
 -- the bytes of a class, and what tells the classes apart
 abbrev bytesOf : Class → List ℕ
@@ -114,11 +123,157 @@ module _ (kept : List ℕ) where
   unsummed-class true h r = refl
   unsummed-class false h r = rw (h, r) refl
 
+-- ADR is the one word that selects, and the four globals are those that go to all
+abbrev selects : Command → Bool
+selects selecting = true
+selects (toOne o) = false
+selects (ofOne q) = false
+selects (toAll o) = false
+selects unknownWord = false
+
+abbrev reachesAll : Command → Bool
+reachesAll (toAll o) = true
+reachesAll (toOne o) = false
+reachesAll (ofOne q) = false
+reachesAll selecting = false
+reachesAll unknownWord = false
+
+adr-word : (w : List ℕ) → selects (commandOf w) ≡ isOneOf adrWord w
+adr-word w = find-where unknownWord selects refl commands refl w
+
+global-word : (w : List ℕ) → reachesAll (commandOf w) ≡ isOneOf globalWords w
+global-word w = find-where unknownWord reachesAll refl commands refl w
+
+-- an empty line has no word
+empty-word : (u : List ℕ) → isEmpty u ≡ true → commandOf (upperAll (wordOf u)) ≡ unknownWord
+unfolding findWord
+empty-word [] e = rw take-nil refl
+empty-word (x ∷ u) e = let z : length (x ∷ u) ≡ 0 = eqb-true (length (x ∷ u)) 0 e in absurd (omega arith)
+
+-- an order's word is known, and what it takes is no address
+order-known : (o : OrderWord) → isUnknown (kindOfOrder o) ≡ false
+order-known (set t) = refl
+order-known ovm = refl
+order-known out = refl
+order-known fld = refl
+order-known ast = refl
+order-known rmt = refl
+order-known fena = refl
+order-known cls = refl
+order-known rst = refl
+
+order-within : (o : OrderWord) (x : List ℕ) → isBeyond (kindOfOrder o) x ≡ false
+order-within (set t) x = refl
+order-within ovm x = refl
+order-within out x = refl
+order-within fld x = refl
+order-within ast x = refl
+order-within rmt x = refl
+order-within fena x = refl
+order-within cls x = refl
+order-within rst x = refl
+
+-- what all stages have, and what is asked where none applies, the first that applies has
+abbrev EachHas : (Asks → Type 0) → List Stage → Type 0
+EachHas P [] = Unit
+EachHas P (e ∷ es) = P (e .1) × EachHas P es
+
+first-has : (P : Asks → Type 0) (es : List Stage) (a : Asks) → EachHas P es → P a → P (firstOf es a)
+first-has P [] a h p = p
+first-has P (e ∷ es) a h p = pick-keeps P (e .0) (e .1) (firstOf es a) (h .0) (first-has P es a (h .1) p)
+
+module _ (x : List ℕ) (s : Bool) where
+  -- the stages of a command from the empty line on, and what is asked where none applies
+  abbrev laterStages : Bool → Command → List Stage
+  laterStages e k =
+      (e, One Nothing) ∷
+      (isUnknown (kindOf k), failsWith k c01) ∷
+      (isAbsent (kindOf k) x, failsWith k c02) ∷
+      (isMalformed (kindOf k) x, failsWith k c03) ∷
+      (isBeyond (kindOf k) x, failsWith k c05) ∷
+      []
+
+  abbrev asksThen : Command → Asks
+  asksThen k = asksWith k (valueOf (kindOf k) x)
+
+  -- what an ADR and what a global is to be
+  abbrev adrWith : Command → Class
+  adrWith k =
+      pick (isAbsent (kindOf k) x) (faulty (replyOf s (codeText c02)))
+      (pick (isMalformed (kindOf k) x) (faulty (replyOf s (codeText c03)))
+      (pick (isBeyond (kindOf k) x) (faulty (replyOf s (codeText c05)))
+      (select (valueOf (kindOf k) x) (replyOf s (codeText 0)))))
+
+  abbrev globalWith : Command → Class
+  globalWith k = pick (isAbsent (kindOf k) x || isMalformed (kindOf k) x) (faulty []) global
+
+  to-one : (e : Bool) (k : Command) → EachHas (λ a. classBy a s ≡ other) (laterStages e k)
+      → classBy (asksThen k) s ≡ other → classBy (firstOf (laterStages e k) (asksThen k)) s ≡ other
+  to-one e k h p = first-has (λ a. classBy a s ≡ other) (laterStages e k) (asksThen k) h p
+
+  to-all : (o : OrderWord) (a m : Bool)
+      → classBy
+      (pick (isUnknown (kindOfOrder o)) (failsWith (toAll o) c01)
+      (pick a (failsWith (toAll o) c02)
+      (pick m (failsWith (toAll o) c03)
+      (pick (isBeyond (kindOfOrder o) x) (failsWith (toAll o) c05) (asksThen (toAll o)))))) s
+      ≡ pick (a || m) (faulty []) global
+  to-all o true m = rw (order-known o) refl
+  to-all o false true = rw (order-known o) refl
+  to-all o false false = rw (order-known o, order-within o x) refl
+
+  to-select : (a m b : Bool)
+      → classBy
+      (pick a (failsWith selecting c02) (pick m (failsWith selecting c03) (pick b (failsWith selecting c05) (asksThen selecting)))) s
+      ≡ pick a (faulty (replyOf s (codeText c02)))
+      (pick m (faulty (replyOf s (codeText c03)))
+      (pick b (faulty (replyOf s (codeText c05)))
+      (select (valueOf address x) (replyOf s (codeText 0)))))
+  to-select true m b = refl
+  to-select false true b = refl
+  to-select false false true = refl
+  to-select false false false = refl
+
+  abbrev Classed : Command → Bool → Type 0
+  Classed k e =
+      classBy (firstOf (laterStages e k) (asksThen k)) s
+      ≡ pick (selects k) (adrWith k) (pick (reachesAll k) (globalWith k) other)
+
+  classed : (k : Command) (e : Bool) → (e ≡ true → k ≡ unknownWord) → Classed k e
+  classed (toOne o) e h = to-one e (toOne o) (refl, (refl, (refl, (refl, (refl, tt))))) refl
+  classed (ofOne q) e h = to-one e (ofOne q) (refl, (refl, (refl, (refl, (refl, tt))))) refl
+  classed unknownWord e h = to-one e unknownWord (refl, (refl, (refl, (refl, (refl, tt))))) refl
+  classed (toAll o) true h = absurd (true≢false (ap reachesAll (h refl)))
+  classed (toAll o) false h = to-all o (isAbsent (kindOfOrder o) x) (isMalformed (kindOfOrder o) x)
+  classed selecting true h = absurd (true≢false (ap selects (h refl)))
+  classed selecting false h = to-select (isAbsent address x) (isMalformed address x) (isBeyond address x)
+
+  -- a line that is spoiled or wrongly summed goes to the slot selected, whatever its word
+  any-classed : (spoiled wrong e : Bool) (k : Command) → Classed k e
+      → classBy (firstOf ((spoiled, Error c01) ∷ (wrong, Error c04) ∷ laterStages e k) (asksThen k)) s
+      ≡ pick ((not spoiled && not wrong) && selects k) (adrWith k)
+      (pick ((not spoiled && not wrong) && reachesAll k) (globalWith k) other)
+  any-classed true wrong e k h = refl
+  any-classed false true e k h = refl
+  any-classed false false e k h = h
+
+-- THE CLASS OF EVERY LINE
+pub class-for : (kept : List ℕ) (spoiled : Bool) → classOf kept spoiled ≡ classFor kept spoiled
+unfolding classOf
+class-for kept spoiled =
+    let x = givenIn kept in
+    let s = drawsSum kept spoiled in
+    let k = commandIn kept in
+    let e = isEmpty (bodyOf kept) in
+    rw (verdicts kept spoiled, summed-when kept spoiled, ← adr-word (wordIn kept), ← global-word (wordIn kept))
+    (any-classed x s spoiled (isWronglySummed kept) e k (classed x s k e (empty-word (bodyOf kept))))
+
 -- EACH PART
 pub classes : (kept : List ℕ) (spoiled : Bool) → Classes kept spoiled
 unfolding classOf
 classes kept spoiled =
     record {
+      class-is = class-for kept spoiled;
       spoiled-other = λ e. rw e (spoiled-class kept);
       unsummed-other = unsummed-class kept spoiled;
       select-inside = λ n t e. rw (ap addressOf e) at (class-inside (heardOf kept spoiled .asks) (heardOf kept spoiled .summed) (heard-inside kept spoiled));

@@ -1,3 +1,4 @@
 pub mod Isolation
 pub mod Classes
 pub mod Unaddressed
+pub mod Shares

@@ -1,15 +1,76 @@
--- What the class of a line owes to what the line asks: each part is stated by itself, since share and rack take it from one function.
+-- The class of a line, from its own characters: which lines are an ADR, which a global, and what each then is. Share and
+-- rack take the class from one function, so what that has to be is said here a second time, and part by part.
 use Prim.Native.Nat.{ℕ, _≤_}
 use mathlib.Core.Path.{_≡_}
-use mathlib.Core.List.{List}
-use mathlib.Core.Bool.{Bool, true, false}
-use Rattle.wire.specs.Wire.{select, faulty, other}
+use mathlib.Core.List.{List, [], _∷_}
+use mathlib.Core.Bool.{Bool, true, false, not, _&&_, _||_}
+use Rattle.base.specs.Choice.{pick}
+use Rattle.base.specs.Text.{codes}
+use Rattle.words.specs.Words.{isOneOf}
+use Rattle.wire.specs.Wire.{Class, select, faulty, global, other}
 use Rattle.supply.specs.declared.Supply.{Supply}
+use Rattle.supply.specs.State.{c05}
+use Rattle.parameters.specs.Parameters.{c02, c03}
 use Rattle.command.specs.Lines.{hasSum, rightSum, heardOf}
+use Rattle.texts.specs.Texts.{codeText, replyOf}
 use Rattle.protocol.specs.Sent.{repliedTo}
+use Rattle.protocol.specs.Verdicts.{wordIn, kindIn, givenIn, isAbsent, isMalformed, isBeyond}
+use Rattle.protocol.specs.Verdicts.{isWronglySummed, drawsSum, valueOf}
 use Rattle.plain.specs.Plain.{classOf}
 
+-- a spoiled line, and one whose sum is wrong, counts as no ADR and no global, whatever its word
+abbrev pub counts : List ℕ → Bool → Bool
+counts kept spoiled = not spoiled && not (isWronglySummed kept)
+
+abbrev pub adrWord : List (List ℕ)
+adrWord = codes "ADR" ∷ []
+
+abbrev pub globalWords : List (List ℕ)
+globalWords = codes "GPV" ∷ codes "GPC" ∷ codes "GOUT" ∷ codes "GRST" ∷ []
+
+abbrev pub isAdr : List ℕ → Bool → Bool
+isAdr kept spoiled = counts kept spoiled && isOneOf adrWord (wordIn kept)
+
+abbrev pub isGlobal : List ℕ → Bool → Bool
+isGlobal kept spoiled = counts kept spoiled && isOneOf globalWords (wordIn kept)
+
+-- C02 and C03: the parameter is absent or empty; it is malformed, or given where none belongs
+abbrev pub isC02 : List ℕ → Bool
+isC02 kept = isAbsent (kindIn kept) (givenIn kept)
+
+abbrev pub isC03 : List ℕ → Bool
+isC03 kept = isMalformed (kindIn kept) (givenIn kept)
+
+-- the address that an ADR names, and that it is above 30
+abbrev pub addressIn : List ℕ → ℕ
+addressIn kept = valueOf (kindIn kept) (givenIn kept)
+
+abbrev pub isC05 : List ℕ → Bool
+isC05 kept = isBeyond (kindIn kept) (givenIn kept)
+
+-- a code's reply, with a sum where the line draws one; code 0 is OK
+abbrev pub says : ℕ → List ℕ → Bool → List ℕ
+says c kept spoiled = replyOf (drawsSum kept spoiled) (codeText c)
+
+-- an ADR selects its address, and OK is that slot's reply; in error it is one that no supply takes, and draws its code
+abbrev pub adrClass : List ℕ → Bool → Class
+adrClass kept spoiled =
+    pick (isC02 kept) (faulty (says c02 kept spoiled))
+    (pick (isC03 kept) (faulty (says c03 kept spoiled))
+    (pick (isC05 kept) (faulty (says c05 kept spoiled))
+    (select (addressIn kept) (says 0 kept spoiled))))
+
+-- EVERY LINE: an ADR; a global, which no supply takes where it is ill-formed, and which then draws nothing; or any other
+-- line, which goes to the slot selected: the empty line, each order and query of one supply, right or in error, the unknown
+-- word, and whatever is spoiled or wrongly summed
+abbrev pub classFor : List ℕ → Bool → Class
+classFor kept spoiled =
+    pick (isAdr kept spoiled) (adrClass kept spoiled)
+    (pick (isGlobal kept spoiled) (pick (isC02 kept || isC03 kept) (faulty []) global)
+    other)
+
 pub record Classes (kept : List ℕ) (spoiled : Bool) : Type 0 where
+  pub class-is : classOf kept spoiled ≡ classFor kept spoiled
   -- a spoiled line, and one with a wrong sum, is neither an ADR nor a global
   pub spoiled-other : spoiled ≡ true → classOf kept spoiled ≡ other
   pub unsummed-other : hasSum kept ≡ true → rightSum kept ≡ false → classOf kept spoiled ≡ other

@@ -2,7 +2,7 @@
 use Prim.Native.Nat.{ℕ, zero, suc, _+_, _-_, _*_, _^_, _<_, _≤_}
 use mathlib.Core.Path.{_≡_, refl, sym, ap, _∙_}
 use mathlib.Core.List.{List, [], _∷_, map}
-use mathlib.Core.Bool.{Bool, true, false, _&&_, false≢true}
+use mathlib.Core.Bool.{Bool, true, false, not, _&&_, false≢true}
 use mathlib.Core.Logic.{⊎-elim}
 use native.Mathlib.Nat.{pow-suc, eq-or-lt-of-le, le-of-suc-le-suc, lt-of-lt-of-le, mul-le-mul-left, pow-le-pow-right}
 use native.Mathlib.Omega.{arith}
@@ -10,10 +10,10 @@ use lib.Dec.{eqb, leb, ltb, lit<}
 use lib.Pow.{areBytes}
 use lib.ListN.{length, getD, length-map, List·getD-map}
 use lib.Seq.{ext-getD}
-use borrow.Author.Tests.{ne-eqb, eq-eqb, eqb-true, ltb-true, leb-true}
+use borrow.Author.Tests.{ne-eqb, eq-eqb, eqb-true, ltb-true, leb-true, not-true}
 use Rattle.base.specs.Choice.{pick}
-use Rattle.base.proofs.Choice.{and-both}
-use Rattle.words.specs.Words.{upper, upperAll, packed, pack, wordNumber, sameWord, Row, findWord, findNumber}
+use Rattle.base.proofs.Choice.{or-false, and-both}
+use Rattle.words.specs.Words.{upper, upperAll, packed, pack, wordNumber, sameWord, isOneOf, Row, findWord, findNumber}
 
 -- every element is a byte
 abbrev pub Bytes : List ℕ → Type 0
@@ -153,6 +153,47 @@ module _ {A : Type 0} (none : A) where
           → f (length w) (findWord none t w) ≡ true → f (length w) (pick b (e .1) (findWord none t w)) ≡ true
       byTest true s here r = rw (← same-eq (e .0) w s) here
       byTest false s here r = r
+
+  -- the words of the rows that pass a test
+  abbrev pub wordsWhere : (A → Bool) → List (Row A) → List (List ℕ)
+  wordsWhere f [] = []
+  wordsWhere f (e ∷ es) = pick (f (e .1)) (e .0 ∷ wordsWhere f es) (wordsWhere f es)
+
+  -- no word stands twice in the table: a test that computes
+  abbrev pub wordsOnce : List (Row A) → Bool
+  wordsOnce [] = true
+  wordsOnce (e ∷ es) = not (isOneOf (map (λ (r : Row A). r .0) es) (e .0)) && wordsOnce es
+
+  where-none : (f : A → Bool) (t : List (Row A)) (w : List ℕ) → isOneOf (map (λ (r : Row A). r .0) t) w ≡ false → isOneOf (wordsWhere f t) w ≡ false
+  where-none f [] w h = refl
+  where-none f (e ∷ t) w h =
+      let q = or-false (sameWord (e .0) w) (isOneOf (map (λ (r : Row A). r .0) t) w) h in
+      byTest (f (e .1)) (q .0) (where-none f t w (q .1))
+    where
+      byTest :
+          (b : Bool) → sameWord (e .0) w ≡ false → isOneOf (wordsWhere f t) w ≡ false
+          → isOneOf (pick b (e .0 ∷ wordsWhere f t) (wordsWhere f t)) w ≡ false
+      byTest true s r = rw (s, r) refl
+      byTest false s r = r
+
+  -- what a word finds passes a test that the default fails where it is one of the words of the rows that pass it
+  pub find-where :
+      (f : A → Bool) → f none ≡ false
+      → (t : List (Row A)) → wordsOnce t ≡ true → (w : List ℕ) → f (findWord none t w) ≡ isOneOf (wordsWhere f t) w
+  unfolding findWord
+  find-where f n [] h w = n
+  find-where f n (e ∷ t) h w =
+      let q = and-both (not (isOneOf (map (λ (r : Row A). r .0) t) (e .0))) (wordsOnce t) h in
+      byTest (sameWord (e .0) w) (f (e .1)) refl refl (not-true (isOneOf (map (λ (r : Row A). r .0) t) (e .0)) (q .0)) (find-where f n t (q .1) w)
+    where
+      byTest :
+          (b p : Bool) → sameWord (e .0) w ≡ b → f (e .1) ≡ p → isOneOf (map (λ (r : Row A). r .0) t) (e .0) ≡ false
+          → f (findWord none t w) ≡ isOneOf (wordsWhere f t) w
+          → f (pick b (e .1) (findWord none t w)) ≡ isOneOf (pick p (e .0 ∷ wordsWhere f t) (wordsWhere f t)) w
+      byTest true true s g o r = rw (s, g) refl
+      byTest true false s g o r = g ∙ sym (where-none f t w (rw (← same-eq (e .0) w s) o))
+      byTest false true s g o r = rw s r
+      byTest false false s g o r = r
 
   -- 0 is no word's number
   find-zero : (t : List (Row A)) → findNumber none t 0 ≡ none

@@ -1,7 +1,7 @@
 -- Tables of words, looked up by their characters and by their numbers.
 use Prim.Native.Nat.{ℕ, zero, suc, _+_, _-_, _*_}
 use mathlib.Core.List.{List, [], _∷_, map}
-use mathlib.Core.Bool.{Bool, true, false, _&&_}
+use mathlib.Core.Bool.{Bool, true, false, _&&_, _||_}
 use lib.ListN.{length, getD}
 use lib.Dec.{leb, ltb, eqb}
 use Rattle.base.specs.Choice.{pick}
@@ -30,6 +30,11 @@ sameWord [] [] = true
 sameWord [] (y ∷ ys) = false
 sameWord (x ∷ xs) [] = false
 sameWord (x ∷ xs) (y ∷ ys) = eqb x y && sameWord xs ys
+
+-- is it one of these words
+abbrev pub isOneOf : List (List ℕ) → List ℕ → Bool
+isOneOf [] w = false
+isOneOf (v ∷ vs) w = sameWord v w || isOneOf vs w
 
 -- a word in capitals and what stands beside it
 abbrev pub Row : Type 0 → Type 0
