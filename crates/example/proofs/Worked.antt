@@ -2,6 +2,7 @@
 use mathlib.Core.Path.{_≡_, refl, sym, ap, _∙_}
 use mathlib.Core.List.{[], _∷_, _++_}
 use mathlib.Core.Bool.{true}
+use Rattle.base.specs.Bits.{bitAt}
 use Rattle.models.specs.Models.{table, limitsOf, voltReading, ampReading}
 use Rattle.figures.specs.Digits.{allDigits, runValue}
 use Rattle.figures.specs.Number.{firstAt, wellFormed, wholeUnits, scaledValue, readNumber}
@@ -11,11 +12,11 @@ use Rattle.supply.specs.State.{fresh}
 use Rattle.supply.specs.Flt.{fltOf, onOf, linesClear, inLimit, settled}
 use Rattle.settings.specs.Settings.{settingOf, withSetting, leastOf, mostOf, signedOf, nearestIn, stepped}
 use Rattle.samples.specs.Samples.{sampled}
-use Rattle.events.specs.Events.{turnedOn, turned}
+use Rattle.events.specs.Events.{anyRises, falls, linesChanged, turnedOn, disarmed, pressed, turned}
 use Rattle.codes.specs.Codes.{setCode, orderCode}
-use Rattle.orders.specs.Orders.{remote, remoteBy, outDone, ordered}
+use Rattle.orders.specs.Orders.{remote, remoteBy, outDone, fldDone, reset, ordered}
 use Rattle.acts.specs.Acts.{codeOf, clearingQuery, clearingOrder, clearingAct, acted, performed}
-use Rattle.answers.specs.Answers.{answerOf}
+use Rattle.answers.specs.Answers.{modeWord, answerOf}
 use Rattle.acts.specs.Releases.{ovp, releases}
 use Rattle.words.specs.Words.{findWord}
 use Rattle.parameters.specs.Parameters.{readAs, parameterOf}
@@ -25,7 +26,7 @@ use Rattle.command.specs.Lines.{rightSum, heardOf}
 use Rattle.texts.specs.Texts.{codeText, wordText, answerText, ending}
 use Rattle.reply.specs.Obeying.{saidOf}
 use Rattle.protocol.specs.Sent.{obeyed, repliedTo}
-use Rattle.field.specs.Fields.{lengthFits, headerCode, valuesFit, actOf, readField}
+use Rattle.field.specs.Fields.{lengthFits, headerCode, valuesFit, keyOf, actOf, readField}
 use Rattle.wire.specs.Wire.{field, byteOn, parse}
 use Rattle.wire.specs.Demand3.{TrippedBy}
 use Rattle.wire.specs.Share as share
@@ -40,24 +41,24 @@ use Rattle.example.specs.Worked.{fittingList, tripping, tripped, release
 
 -- the unfoldings: lists and fields; lines; the supply and its replies
 share-6 : shareOf grammar (setupOf fittingList) calls 6 ≡ shareTripping ++ shareTripped ++ shareReleased
-unfolding fittingList calls tripping tripped released shareTripping shareTripped shareReleased brought share.typed parse readField headerCode lengthFits valuesFit classOf heardOf asksOf rightSum askedBy parameterOf readAs findWord readNumber scaledValue wholeUnits wellFormed firstAt runValue allDigits readHex hexOf isHex
+unfolding fittingList calls tripping tripped released shareTripping shareTripped shareReleased brought share.typed parse readField headerCode lengthFits valuesFit classOf heardOf asksOf rightSum askedBy parameterOf readAs findWord readNumber scaledValue wholeUnits wellFormed firstAt runValue allDigits readHex hexOf isHex checksum total
 share-6 = refl
 
 -- up to the release
 share-6-tripped : shareOf grammar (setupOf fittingList) (tripping ++ tripped) 6 ≡ shareTripping ++ shareTripped
-unfolding fittingList calls tripping tripped released shareTripping shareTripped shareReleased brought share.typed parse readField headerCode lengthFits valuesFit classOf heardOf asksOf rightSum askedBy parameterOf readAs findWord readNumber scaledValue wholeUnits wellFormed firstAt runValue allDigits readHex hexOf isHex
+unfolding fittingList calls tripping tripped released shareTripping shareTripped shareReleased brought share.typed parse readField headerCode lengthFits valuesFit classOf heardOf asksOf rightSum askedBy parameterOf readAs findWord readNumber scaledValue wholeUnits wellFormed firstAt runValue allDigits readHex hexOf isHex checksum total
 share-6-tripped = refl
 
 share-alone : shareOf grammar (setupOf listAlone) alone 6 ≡ shareTripping ++ shareTripped ++ shareReleased
-unfolding listAlone alone shareTripping shareTripped shareReleased brought share.typed parse readField headerCode lengthFits valuesFit classOf heardOf asksOf rightSum askedBy parameterOf readAs findWord readNumber scaledValue wholeUnits wellFormed firstAt runValue allDigits readHex hexOf isHex
+unfolding listAlone alone shareTripping shareTripped shareReleased brought share.typed parse readField headerCode lengthFits valuesFit classOf heardOf asksOf rightSum askedBy parameterOf readAs findWord readNumber scaledValue wholeUnits wellFormed firstAt runValue allDigits readHex hexOf isHex checksum total
 share-alone = refl
 
 replies : answers (freshRack plainSupply (setupOf fittingList)) calls ≡ expected
-unfolding fittingList calls tripping tripped released expected callOf byteOn parse readField headerCode lengthFits valuesFit classOf heardOf asksOf rightSum askedBy parameterOf readAs findWord readNumber scaledValue wholeUnits wellFormed firstAt runValue allDigits readHex hexOf isHex stepOf replyTo obeyed repliedTo saidOf codeText wordText answerText ending answerOf actOf performed acted clearingQuery clearingOrder clearingAct codeOf ordered outDone remote remoteBy orderCode setCode sampled turnedOn turned stepped nearestIn signedOf leastOf mostOf withSetting settingOf settled onOf linesClear inLimit fltOf fresh figure decimals shortest fixed checksum total hexPair voltReading ampReading limitsOf table
+unfolding fittingList calls tripping tripped released expected callOf byteOn parse readField headerCode lengthFits valuesFit classOf heardOf asksOf rightSum askedBy parameterOf readAs findWord readNumber scaledValue wholeUnits wellFormed firstAt runValue allDigits readHex hexOf isHex stepOf replyTo obeyed repliedTo saidOf codeText wordText answerText ending answerOf modeWord keyOf actOf performed acted clearingQuery clearingOrder clearingAct codeOf ordered reset outDone fldDone remote remoteBy orderCode setCode sampled linesChanged anyRises falls bitAt pressed disarmed turnedOn turned stepped nearestIn signedOf leastOf mostOf withSetting settingOf settled onOf linesClear inLimit fltOf fresh figure decimals shortest fixed checksum total hexPair voltReading ampReading limitsOf table
 replies = refl
 
 end-6 : plain plainSupply 0 (shareTripping ++ shareTripped ++ shareReleased) ≡ endState
-unfolding shareTripping shareTripped shareReleased endState classOf heardOf asksOf rightSum askedBy parameterOf readAs findWord readNumber scaledValue wholeUnits wellFormed firstAt runValue allDigits readHex hexOf isHex stepOf replyTo obeyed repliedTo saidOf codeText wordText answerText ending answerOf actOf performed acted clearingQuery clearingOrder clearingAct codeOf ordered outDone remote remoteBy orderCode setCode sampled turnedOn turned stepped nearestIn signedOf leastOf mostOf withSetting settingOf settled onOf linesClear inLimit fltOf fresh figure decimals shortest fixed checksum total hexPair voltReading ampReading limitsOf table
+unfolding shareTripping shareTripped shareReleased endState classOf heardOf asksOf rightSum askedBy parameterOf readAs findWord readNumber scaledValue wholeUnits wellFormed firstAt runValue allDigits readHex hexOf isHex stepOf replyTo obeyed repliedTo saidOf codeText wordText answerText ending answerOf modeWord keyOf actOf performed acted clearingQuery clearingOrder clearingAct codeOf ordered reset outDone fldDone remote remoteBy orderCode setCode sampled linesChanged anyRises falls bitAt pressed disarmed turnedOn turned stepped nearestIn signedOf leastOf mostOf withSetting settingOf settled onOf linesClear inLimit fltOf fresh figure decimals shortest fixed checksum total hexPair voltReading ampReading limitsOf table
 end-6 = refl
 
 on-6 : onOf endState ≡ true
@@ -65,10 +66,12 @@ unfolding endState onOf fltOf
 on-6 = refl
 
 tripped-6 : TrippedBy plainSupply trips 0 ovp (shareTripping ++ shareTripped)
-unfolding shareTripping shareTripped releasesOf releases classOf heardOf asksOf rightSum askedBy parameterOf readAs findWord readNumber scaledValue wholeUnits wellFormed firstAt runValue allDigits readHex hexOf isHex stepOf replyTo obeyed repliedTo saidOf codeText wordText answerText ending answerOf actOf performed acted clearingQuery clearingOrder clearingAct codeOf ordered outDone remote remoteBy orderCode setCode sampled turnedOn turned stepped nearestIn signedOf leastOf mostOf withSetting settingOf settled onOf linesClear inLimit fltOf fresh figure decimals shortest fixed checksum total hexPair voltReading ampReading limitsOf table
+unfolding shareTripping shareTripped releasesOf releases classOf heardOf asksOf rightSum askedBy parameterOf readAs findWord readNumber scaledValue wholeUnits wellFormed firstAt runValue allDigits readHex hexOf isHex stepOf replyTo obeyed repliedTo saidOf codeText wordText answerText ending answerOf modeWord keyOf actOf performed acted clearingQuery clearingOrder clearingAct codeOf ordered reset outDone fldDone remote remoteBy orderCode setCode sampled linesChanged anyRises falls bitAt pressed disarmed turnedOn turned stepped nearestIn signedOf leastOf mostOf withSetting settingOf settled onOf linesClear inLimit fltOf fresh figure decimals shortest fixed checksum total hexPair voltReading ampReading limitsOf table
 tripped-6 =
     record {
-      before = typed "PV 5" ∷ typed "OVP 5.5" ∷ typed "OUT 1" ∷ field 5 (6 ∷ 179 ∷ 9 ∷ 0 ∷ 0 ∷ []) ∷ [];
+      before =
+          typed "FENA 5A" ∷ typed "PV 4" ∷ typed "RST" ∷ typed "PV?" ∷
+          typed "PV 5" ∷ typed "OVP 5.5" ∷ typed "OUT 1" ∷ typed "FENA?" ∷ field 5 (6 ∷ 179 ∷ 9 ∷ 0 ∷ 0 ∷ []) ∷ [];
       entry = field 5 (6 ∷ 179 ∷ 10 ∷ 0 ∷ 0 ∷ []);
       mid = shareTripped;
       splits = refl;
@@ -77,11 +80,11 @@ tripped-6 =
     }
 
 share-9 : shareOf grammar (setupOf fittingList) (tripping ++ tripped) 9 ≡ shareNeighbour
-unfolding fittingList calls tripping tripped released shareNeighbour brought share.typed parse readField headerCode lengthFits valuesFit classOf heardOf asksOf rightSum askedBy parameterOf readAs findWord readNumber scaledValue wholeUnits wellFormed firstAt runValue allDigits readHex hexOf isHex
+unfolding fittingList calls tripping tripped released shareNeighbour brought share.typed parse readField headerCode lengthFits valuesFit classOf heardOf asksOf rightSum askedBy parameterOf readAs findWord readNumber scaledValue wholeUnits wellFormed firstAt runValue allDigits readHex hexOf isHex checksum total
 share-9 = refl
 
 end-9 : (onOf (plain plainSupply 3 shareNeighbour) ≡ true) × (plain plainSupply 3 shareNeighbour .pv ≡ 53000)
-unfolding shareNeighbour classOf heardOf asksOf rightSum askedBy parameterOf readAs findWord readNumber scaledValue wholeUnits wellFormed firstAt runValue allDigits readHex hexOf isHex stepOf replyTo obeyed repliedTo saidOf codeText wordText answerText ending answerOf actOf performed acted clearingQuery clearingOrder clearingAct codeOf ordered outDone remote remoteBy orderCode setCode sampled turnedOn turned stepped nearestIn signedOf leastOf mostOf withSetting settingOf settled onOf linesClear inLimit fltOf fresh figure decimals shortest fixed checksum total hexPair voltReading ampReading limitsOf table
+unfolding shareNeighbour classOf heardOf asksOf rightSum askedBy parameterOf readAs findWord readNumber scaledValue wholeUnits wellFormed firstAt runValue allDigits readHex hexOf isHex stepOf replyTo obeyed repliedTo saidOf codeText wordText answerText ending answerOf modeWord keyOf actOf performed acted clearingQuery clearingOrder clearingAct codeOf ordered reset outDone fldDone remote remoteBy orderCode setCode sampled linesChanged anyRises falls bitAt pressed disarmed turnedOn turned stepped nearestIn signedOf leastOf mostOf withSetting settingOf settled onOf linesClear inLimit fltOf fresh figure decimals shortest fixed checksum total hexPair voltReading ampReading limitsOf table
 end-9 = (refl, refl)
 
 pub worked-out : WorkedOut
@@ -90,6 +93,7 @@ worked-out =
     record {
       answers-are = replies;
       share-is = share-6;
+      share-beside = share-9;
       there-is-one = some-run fittingList calls refl;
       ends-as = λ r g. isolated-code (setupOf fittingList) calls 6 refl .ends r g ∙ ap (plain plainSupply 0) share-6 ∙ end-6;
       ends-on = on-6;

@@ -19,29 +19,44 @@ use Rattle.rack.specs.Demand3.{Run, setupOf, supplyAt}
 unfoldable pub fittingList : List ℕ
 fittingList = replicate 6 255 ++ 0 ∷ 255 ∷ 255 ∷ 3 ∷ replicate 21 255
 
--- a field of tag 1, and one of tag 5; the reply buffer has 512 bytes
+-- a field of tag 1, of tag 2, of tag 4 and of tag 5; the reply buffer has 512 bytes
 abbrev pub serial : String → Call
 serial t = record { bytes = 1 ∷ 0 ∷ length (codes t) ∷ codes t; room = 512 }
+
+abbrev pub key : ℕ → ℕ → Call
+key a k = record { bytes = 2 ∷ 0 ∷ 2 ∷ a ∷ k ∷ []; room = 512 }
+
+abbrev pub lines : ℕ → ℕ → Call
+lines a b = record { bytes = 4 ∷ 0 ∷ 2 ∷ a ∷ b ∷ []; room = 512 }
 
 abbrev pub sample : ℕ → ℕ → ℕ → Call
 sample a v i = record { bytes = 5 ∷ 0 ∷ 5 ∷ a ∷ v / 256 ∷ v % 256 ∷ i / 256 ∷ i % 256 ∷ []; room = 512 }
 
--- up to the trip: ADR comes in two fields, with a call between them that is refused for its buffer; later comes one of two bytes
+-- up to the trip: ADR comes in two fields, with a call between them that is refused for its buffer; FENA enables AC, both
+-- trips and WANT off, and outlives RST, as PV does not; later comes a call of two bytes
 unfoldable pub tripping : List Call
 tripping =
-    serial "ADR" ∷ record { bytes = serial " 9\r" .bytes; room = 511 } ∷ serial " 6\rPV 5\r" ∷
-    serial "OVP 5.5\rOUT 1\r" ∷ sample 6 45833 0 ∷ record { bytes = 1 ∷ 0 ∷ []; room = 512 } ∷
+    serial "ADR" ∷ record { bytes = serial " 9\r" .bytes; room = 511 } ∷ serial " 6\rFENA 5A\r" ∷
+    serial "PV 4\rRST\rPV?\r" ∷ serial "PV 5\rOVP 5.5\r" ∷ serial "OUT 1\rFENA?\r" ∷
+    sample 6 45833 0 ∷ record { bytes = 1 ∷ 0 ∷ []; room = 512 } ∷
     sample 6 45834 0 ∷ []
 
--- tripped: OUT 0, a sample for an empty slot, the neighbour's lines, a global that the neighbour takes and slot 6 refuses
+-- tripped, and no release: OUT 0; LINES with a bit that there is not, SO rising, an OUT 1 that it forbids, SO falling with
+-- auto start off; the OUTPUT key in remote. A sample for an empty slot, and the neighbour's lines: among them a global and an
+-- ADR in error, which are nobody's; a global that the neighbour takes and slot 6 refuses; and one with a wrong sum, which is
+-- the neighbour's alone
 unfoldable pub tripped : List Call
 tripped =
-    serial "OUT 0\rFLT?\r" ∷ sample 7 45834 0 ∷
-    serial "ADR 9\rPV 10\r" ∷ serial "OUT 1\rGPV 5.3\r" ∷ sample 9 20000 0 ∷ serial "PV?\r" ∷ []
+    serial "OUT 0\rFLT?\r" ∷ lines 6 1 ∷ lines 6 32 ∷ serial "OUT 1\rFLT?\r" ∷ lines 6 0 ∷ key 6 0 ∷
+    sample 7 45834 0 ∷
+    serial "ADR 9\rPV 10\r" ∷ serial "GPV x\rADR 31\r" ∷ serial "OUT 1\rGPV 5.3\r" ∷ sample 9 20000 0 ∷
+    serial "GPV 6$00\rPV?\r" ∷ []
 
--- the release
+-- the release; a query with its sum; the events enabled, once; and LOCAL and FOLD on the panel
 unfoldable pub released : List Call
-released = serial "ADR 6\rOUT 1\r" ∷ serial "FLT?\rPV?\r" ∷ []
+released =
+    serial "ADR 6\rOUT 1\r" ∷ serial "FLT?$25\rPV?\r" ∷ serial "FEVE?\rFEVE?\r" ∷
+    key 6 2 ∷ key 6 1 ∷ serial "FLD?\rRMT?\r" ∷ []
 
 unfoldable pub calls : List Call
 calls = tripping ++ tripped ++ released
@@ -52,8 +67,10 @@ listAlone = replicate 6 255 ++ 0 ∷ replicate 24 255
 
 unfoldable pub alone : List Call
 alone =
-    serial "ADR 6\rPV 5\rOVP " ∷ serial "5.5\rOUT 1\r" ∷ sample 6 45833 0 ∷ sample 6 45834 0 ∷
-    serial "OUT 0\rFLT?\r" ∷ serial "GPV 5.3\r" ∷ serial "OUT 1\rFLT?\rPV?\r" ∷ []
+    serial "ADR 6\rFENA 5A\r" ∷ serial "PV 4\rRST\rPV?\rPV" ∷ serial " 5\rOVP 5.5\rOUT " ∷ serial "1\rFENA?\r" ∷
+    sample 6 45833 0 ∷ sample 6 45834 0 ∷
+    serial "OUT 0\rFLT?\r" ∷ lines 6 32 ∷ serial "OUT 1\rFLT?\r" ∷ lines 6 0 ∷ key 6 0 ∷ serial "GPV 5.3\r" ∷
+    serial "OUT 1\rFLT?$25\r" ∷ serial "PV?\rFEVE?\rFEVE?\r" ∷ key 6 2 ∷ key 6 1 ∷ serial "FLD?\rRMT?\r" ∷ []
 
 -- what a call came to: the number of its refusal; or the bytes used and the reply
 pub data Came : Type 0 where
@@ -70,12 +87,15 @@ answers r (c ∷ cs) = cameOf (callOf plainSupply r c) ∷ answers (after plainS
 
 unfoldable pub expected : List Came
 expected =
-    yes 6 [] ∷ no 1 ∷ yes 11 (codes "OK\rOK\r") ∷
-    yes 17 (codes "OK\rOK\r") ∷ yes 8 [] ∷ no 2 ∷
+    yes 6 [] ∷ no 1 ∷ yes 14 (codes "OK\rOK\r") ∷
+    yes 16 (codes "OK\rOK\r0.0000\r") ∷ yes 16 (codes "OK\rOK\r") ∷ yes 15 (codes "OK\r5A\r") ∷
+    yes 8 [] ∷ no 2 ∷
     yes 8 [] ∷
-    yes 14 (codes "OK\r50\r") ∷ no 6 ∷
-    yes 15 (codes "OK\rOK\r") ∷ yes 17 (codes "OK\r") ∷ yes 8 [] ∷ yes 7 (codes "5.3000\r") ∷
-    yes 15 (codes "OK\rOK\r") ∷ yes 12 (codes "00\r5.0000\r") ∷ []
+    yes 14 (codes "OK\r50\r") ∷ no 7 ∷ yes 5 [] ∷ yes 14 (codes "E07\r70\r") ∷ yes 5 [] ∷ yes 5 [] ∷ no 6 ∷
+    yes 15 (codes "OK\rOK\r") ∷ yes 16 (codes "C05\r") ∷ yes 17 (codes "OK\r") ∷ yes 8 [] ∷
+    yes 16 (codes "C04\r5.3000\r") ∷
+    yes 15 (codes "OK\rOK\r") ∷ yes 15 (codes "00$60\r5.0000\r") ∷ yes 15 (codes "50\r00\r") ∷
+    yes 5 [] ∷ yes 5 [] ∷ yes 13 (codes "ON\rLOC\r") ∷ []
 
 abbrev pub typed : String → Entry
 typed t = line (codes t) false
@@ -83,20 +103,28 @@ typed t = line (codes t) false
 -- the share of slot 6 up to the trip, until the release, and from there on
 unfoldable pub shareTripping : List Entry
 shareTripping =
-    typed "PV 5" ∷ typed "OVP 5.5" ∷ typed "OUT 1" ∷
+    typed "FENA 5A" ∷ typed "PV 4" ∷ typed "RST" ∷ typed "PV?" ∷
+    typed "PV 5" ∷ typed "OVP 5.5" ∷ typed "OUT 1" ∷ typed "FENA?" ∷
     field 5 (6 ∷ 179 ∷ 9 ∷ 0 ∷ 0 ∷ []) ∷ field 5 (6 ∷ 179 ∷ 10 ∷ 0 ∷ 0 ∷ []) ∷ []
 
 unfoldable pub shareTripped : List Entry
-shareTripped = typed "OUT 0" ∷ typed "FLT?" ∷ typed "GPV 5.3" ∷ []
+shareTripped =
+    typed "OUT 0" ∷ typed "FLT?" ∷ field 4 (6 ∷ 32 ∷ []) ∷ typed "OUT 1" ∷ typed "FLT?" ∷ field 4 (6 ∷ 0 ∷ []) ∷
+    field 2 (6 ∷ 0 ∷ []) ∷ typed "GPV 5.3" ∷ []
 
 unfoldable pub shareReleased : List Entry
-shareReleased = typed "OUT 1" ∷ typed "FLT?" ∷ typed "PV?" ∷ []
+shareReleased =
+    typed "OUT 1" ∷ typed "FLT?$25" ∷ typed "PV?" ∷ typed "FEVE?" ∷ typed "FEVE?" ∷
+    field 2 (6 ∷ 2 ∷ []) ∷ field 2 (6 ∷ 1 ∷ []) ∷ typed "FLD?" ∷ typed "RMT?" ∷ []
 
--- and of its neighbour until then
+-- and of its neighbour until then: neither the ill-formed global nor the ADR in error, though it was selected
 unfoldable pub shareNeighbour : List Entry
-shareNeighbour = typed "PV 10" ∷ typed "OUT 1" ∷ typed "GPV 5.3" ∷ field 5 (9 ∷ 78 ∷ 32 ∷ 0 ∷ 0 ∷ []) ∷ typed "PV?" ∷ []
+shareNeighbour =
+    typed "PV 10" ∷ typed "OUT 1" ∷ typed "GPV 5.3" ∷ field 5 (9 ∷ 78 ∷ 32 ∷ 0 ∷ 0 ∷ []) ∷
+    typed "GPV 6$00" ∷ typed "PV?" ∷ []
 
--- slot 6 at the end: the setting that the global would not change, the output ordered, no trip, remote, and the last counts
+-- slot 6 at the end: the setting that the global would not change, the output ordered, no trip, foldback armed and the
+-- panel in charge; the faults enabled, the events read and gone, and the last counts
 unfoldable pub endState : Supply
 endState =
     record {
@@ -105,13 +133,13 @@ endState =
       ovp = 55000;
       uvl = 0;
       want = true;
-      armed = false;
+      armed = true;
       ast = false;
-      mode = 1;
+      mode = 0;
       lines = 0;
       «fold_trip» = false;
       «ovp_trip» = false;
-      fena = 0;
+      fena = 0x5A;
       feve = 0;
       «volt_count» = 45834;
       «amp_count» = 0;
@@ -121,8 +149,9 @@ endState =
 pub record WorkedOut : Type 0 where
   -- each call's answer
   pub answers-are : answers (freshRack plainSupply (setupOf fittingList)) calls ≡ expected
-  -- what slot 6 was given, trip and release at their places
+  -- what slot 6 was given, trip and release at their places; and its neighbour, until the release
   pub share-is : shareOf grammar (setupOf fittingList) calls 6 ≡ shareTripping ++ shareTripped ++ shareReleased
+  pub share-beside : shareOf grammar (setupOf fittingList) (tripping ++ tripped) 9 ≡ shareNeighbour
   -- there is such a run; and each one leaves the supply of slot 6 so, with its output on
   pub there-is-one : (r : Rack) × Run (setupOf fittingList) calls r
   pub ends-as : (r : Rack) → Run (setupOf fittingList) calls r → supplyAt r 6 ≡ endState
