@@ -22,7 +22,7 @@ use Rattle.asks.specs.Words.{askedBy}
 use Rattle.asks.specs.Asked.{asksOf}
 use Rattle.command.specs.Lines.{rightSum, heardOf}
 use Rattle.protocol.specs.Sent.{obeyed}
-use Rattle.field.specs.Fields.{lengthFits, headerCode, valuesFit, keyOf, targetOf, actOf, readField}
+use Rattle.field.specs.Fields.{lengthFits, headerCode, valuesFit, pressOf, turnOf, actOf, readField}
 use Rattle.wire.specs.Wire.{Entry, field, line, parse}
 use Rattle.wire.specs.Share as share
 use Rattle.wire.specs.Share.{brought, shareOf}
@@ -55,7 +55,7 @@ unfolding shareAt
 addresses-only = refl
 
 end-here : plain plainSupply 0 (shareAt 6) ≡ foldedBack
-unfolding shareAt foldedBack stepOf actOf keyOf targetOf heardOf asksOf rightSum askedBy parameterOf readAs findWord obeyed performed acted clearingQuery clearingOrder clearingAct codeOf sampled turnedOn disarmed pressed turned stepped nearestIn signedOf leastOf mostOf withSetting settingOf settled onOf linesClear inLimit fltOf fresh voltReading ampReading limitsOf table firstAt
+unfolding shareAt foldedBack stepOf actOf pressOf turnOf heardOf asksOf rightSum askedBy parameterOf readAs findWord obeyed performed acted clearingQuery clearingOrder clearingAct codeOf sampled turnedOn disarmed pressed turned stepped nearestIn signedOf leastOf mostOf withSetting settingOf settled onOf linesClear inLimit fltOf fresh voltReading ampReading limitsOf table firstAt
 end-here = refl
 
 -- the address in the first entry of a share

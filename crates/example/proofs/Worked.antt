@@ -26,7 +26,7 @@ use Rattle.command.specs.Lines.{rightSum, heardOf}
 use Rattle.texts.specs.Texts.{codeText, wordText, answerText, ending}
 use Rattle.reply.specs.Obeying.{saidOf}
 use Rattle.protocol.specs.Sent.{obeyed, repliedTo}
-use Rattle.field.specs.Fields.{lengthFits, headerCode, valuesFit, keyOf, actOf, readField}
+use Rattle.field.specs.Fields.{lengthFits, headerCode, valuesFit, pressOf, actOf, readField}
 use Rattle.wire.specs.Wire.{field, byteOn, parse}
 use Rattle.wire.specs.Demand3.{TrippedBy}
 use Rattle.wire.specs.Share as share
@@ -54,11 +54,11 @@ unfolding listAlone alone shareTripping shareTripped shareReleased brought share
 share-alone = refl
 
 replies : answers (freshRack plainSupply (setupOf fittingList)) calls ≡ expected
-unfolding fittingList calls tripping tripped released expected callOf byteOn parse readField headerCode lengthFits valuesFit classOf heardOf asksOf rightSum askedBy parameterOf readAs findWord readNumber scaledValue wholeUnits wellFormed firstAt runValue allDigits readHex hexOf isHex stepOf replyTo obeyed repliedTo saidOf codeText wordText answerText ending answerOf modeWord keyOf actOf performed acted clearingQuery clearingOrder clearingAct codeOf ordered reset outDone fldDone remote remoteBy orderCode setCode sampled linesChanged anyRises falls bitAt pressed disarmed turnedOn turned stepped nearestIn signedOf leastOf mostOf withSetting settingOf settled onOf linesClear inLimit fltOf fresh figure decimals shortest fixed checksum total hexPair voltReading ampReading limitsOf table
+unfolding fittingList calls tripping tripped released expected callOf byteOn parse readField headerCode lengthFits valuesFit classOf heardOf asksOf rightSum askedBy parameterOf readAs findWord readNumber scaledValue wholeUnits wellFormed firstAt runValue allDigits readHex hexOf isHex stepOf replyTo obeyed repliedTo saidOf codeText wordText answerText ending answerOf modeWord pressOf actOf performed acted clearingQuery clearingOrder clearingAct codeOf ordered reset outDone fldDone remote remoteBy orderCode setCode sampled linesChanged anyRises falls bitAt pressed disarmed turnedOn turned stepped nearestIn signedOf leastOf mostOf withSetting settingOf settled onOf linesClear inLimit fltOf fresh figure decimals shortest fixed checksum total hexPair voltReading ampReading limitsOf table
 replies = refl
 
 end-6 : plain plainSupply 0 (shareTripping ++ shareTripped ++ shareReleased) ≡ endState
-unfolding shareTripping shareTripped shareReleased endState classOf heardOf asksOf rightSum askedBy parameterOf readAs findWord readNumber scaledValue wholeUnits wellFormed firstAt runValue allDigits readHex hexOf isHex stepOf replyTo obeyed repliedTo saidOf codeText wordText answerText ending answerOf modeWord keyOf actOf performed acted clearingQuery clearingOrder clearingAct codeOf ordered reset outDone fldDone remote remoteBy orderCode setCode sampled linesChanged anyRises falls bitAt pressed disarmed turnedOn turned stepped nearestIn signedOf leastOf mostOf withSetting settingOf settled onOf linesClear inLimit fltOf fresh figure decimals shortest fixed checksum total hexPair voltReading ampReading limitsOf table
+unfolding shareTripping shareTripped shareReleased endState classOf heardOf asksOf rightSum askedBy parameterOf readAs findWord readNumber scaledValue wholeUnits wellFormed firstAt runValue allDigits readHex hexOf isHex stepOf replyTo obeyed repliedTo saidOf codeText wordText answerText ending answerOf modeWord pressOf actOf performed acted clearingQuery clearingOrder clearingAct codeOf ordered reset outDone fldDone remote remoteBy orderCode setCode sampled linesChanged anyRises falls bitAt pressed disarmed turnedOn turned stepped nearestIn signedOf leastOf mostOf withSetting settingOf settled onOf linesClear inLimit fltOf fresh figure decimals shortest fixed checksum total hexPair voltReading ampReading limitsOf table
 end-6 = refl
 
 on-6 : onOf endState ≡ true
@@ -66,7 +66,7 @@ unfolding endState onOf fltOf
 on-6 = refl
 
 tripped-6 : TrippedBy plainSupply trips 0 ovp (shareTripping ++ shareTripped)
-unfolding shareTripping shareTripped releasesOf releases classOf heardOf asksOf rightSum askedBy parameterOf readAs findWord readNumber scaledValue wholeUnits wellFormed firstAt runValue allDigits readHex hexOf isHex stepOf replyTo obeyed repliedTo saidOf codeText wordText answerText ending answerOf modeWord keyOf actOf performed acted clearingQuery clearingOrder clearingAct codeOf ordered reset outDone fldDone remote remoteBy orderCode setCode sampled linesChanged anyRises falls bitAt pressed disarmed turnedOn turned stepped nearestIn signedOf leastOf mostOf withSetting settingOf settled onOf linesClear inLimit fltOf fresh figure decimals shortest fixed checksum total hexPair voltReading ampReading limitsOf table
+unfolding shareTripping shareTripped releasesOf releases classOf heardOf asksOf rightSum askedBy parameterOf readAs findWord readNumber scaledValue wholeUnits wellFormed firstAt runValue allDigits readHex hexOf isHex stepOf replyTo obeyed repliedTo saidOf codeText wordText answerText ending answerOf modeWord pressOf actOf performed acted clearingQuery clearingOrder clearingAct codeOf ordered reset outDone fldDone remote remoteBy orderCode setCode sampled linesChanged anyRises falls bitAt pressed disarmed turnedOn turned stepped nearestIn signedOf leastOf mostOf withSetting settingOf settled onOf linesClear inLimit fltOf fresh figure decimals shortest fixed checksum total hexPair voltReading ampReading limitsOf table
 tripped-6 =
     record {
       before =
@@ -84,7 +84,7 @@ unfolding fittingList calls tripping tripped released shareNeighbour brought sha
 share-9 = refl
 
 end-9 : (onOf (plain plainSupply 3 shareNeighbour) ≡ true) × (plain plainSupply 3 shareNeighbour .pv ≡ 53000)
-unfolding shareNeighbour classOf heardOf asksOf rightSum askedBy parameterOf readAs findWord readNumber scaledValue wholeUnits wellFormed firstAt runValue allDigits readHex hexOf isHex stepOf replyTo obeyed repliedTo saidOf codeText wordText answerText ending answerOf modeWord keyOf actOf performed acted clearingQuery clearingOrder clearingAct codeOf ordered reset outDone fldDone remote remoteBy orderCode setCode sampled linesChanged anyRises falls bitAt pressed disarmed turnedOn turned stepped nearestIn signedOf leastOf mostOf withSetting settingOf settled onOf linesClear inLimit fltOf fresh figure decimals shortest fixed checksum total hexPair voltReading ampReading limitsOf table
+unfolding shareNeighbour classOf heardOf asksOf rightSum askedBy parameterOf readAs findWord readNumber scaledValue wholeUnits wellFormed firstAt runValue allDigits readHex hexOf isHex stepOf replyTo obeyed repliedTo saidOf codeText wordText answerText ending answerOf modeWord pressOf actOf performed acted clearingQuery clearingOrder clearingAct codeOf ordered reset outDone fldDone remote remoteBy orderCode setCode sampled linesChanged anyRises falls bitAt pressed disarmed turnedOn turned stepped nearestIn signedOf leastOf mostOf withSetting settingOf settled onOf linesClear inLimit fltOf fresh figure decimals shortest fixed checksum total hexPair voltReading ampReading limitsOf table
 end-9 = (refl, refl)
 
 pub worked-out : WorkedOut

@@ -1,5 +1,5 @@
-use Prim.Native.Nat.{_*_}
 -- `pc_code` meets its contract.
+use Prim.Native.Nat.{_*_}
 use borrow.Author.Tests.{lt-ltb, le-ltb}
 use native.Mathlib.Omega.{arith}
 use borrow.Author.Needs.{needs}

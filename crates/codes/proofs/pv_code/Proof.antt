@@ -1,5 +1,5 @@
-use Prim.Native.Nat.{_*_}
 -- `pv_code` meets its contract.
+use Prim.Native.Nat.{_*_}
 use borrow.Author.Tests.{lt-ltb, le-ltb}
 use native.Mathlib.Omega.{arith}
 use borrow.Author.Needs.{needs}
@@ -25,13 +25,19 @@ returns : tie.Need-returns
 returns c = simp (lt-ltb (21 * c .before .args .volts) (20 * c .before .args .n) (omega arith))
 
 returns-2 : tie.Need-returns-2
-returns-2 c = simp (le-ltb (21 * c .before .before .args .volts) (20 * c .before .before .args .n) (omega arith), lt-ltb _ _ (c .if2 .taken))
+returns-2 c =
+    let z = c .before .before .args in
+    simp (le-ltb (21 * z .volts) (20 * z .n) (omega arith), lt-ltb (20 * z .ovp) (21 * z .n) (c .if2 .taken))
 
 returns-3 : tie.Need-returns-3
-returns-3 c = simp (le-ltb (21 * c .before .before .before .args .volts) (20 * c .before .before .before .args .n) (omega arith), le-ltb _ _ (c .before .if2 .left), lt-ltb _ _ (c .if3 .taken))
+returns-3 c =
+    let z = c .before .before .before .args in
+    simp (le-ltb (21 * z .volts) (20 * z .n) (omega arith), le-ltb (20 * z .ovp) (21 * z .n) (c .before .if2 .left), lt-ltb (19 * z .n) (20 * z .uvl) (c .if3 .taken))
 
 returns-4 : tie.Need-returns-4
-returns-4 c = simp (le-ltb (21 * c .before .before .before .args .volts) (20 * c .before .before .before .args .n) (omega arith), le-ltb _ _ (c .before .if2 .left), le-ltb _ _ (c .if3 .left))
+returns-4 c =
+    let z = c .before .before .before .args in
+    simp (le-ltb (21 * z .volts) (20 * z .n) (omega arith), le-ltb (20 * z .ovp) (21 * z .n) (c .before .if2 .left), le-ltb (19 * z .n) (20 * z .uvl) (c .if3 .left))
 
 pub pv-code-spec : {M : Type 1} → statement M
 pv-code-spec =

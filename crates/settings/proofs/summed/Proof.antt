@@ -12,7 +12,7 @@ add-sum c = search needs
 
 returns : tie.Need-returns
 unfolding signedOf
-returns c = rw (lt-ltb _ _ (c .if1 .taken))
+returns c = rw (lt-ltb (c .before .args .raw) 0x80000000 (c .if1 .taken))
 
 returns-2 : tie.Need-returns-2
 returns-2 c = omega (arith, sum-below (c .before .before .args .x) (c .before .before .args .raw) (omega arith) (omega arith))
