@@ -27,7 +27,7 @@ use Rattle.texts.specs.Texts.{codeText, wordText, answerText, ending}
 use Rattle.reply.specs.Obeying.{saidOf}
 use Rattle.protocol.specs.Sent.{obeyed, repliedTo}
 use Rattle.field.specs.Fields.{lengthFits, headerCode, valuesFit, pressOf, actOf, readField}
-use Rattle.wire.specs.Wire.{field, byteOn, parse}
+use Rattle.wire.specs.Wire.{field, charOn, byteOn, parse}
 use Rattle.wire.specs.Demand3.{TrippedBy}
 use Rattle.wire.specs.Share as share
 use Rattle.wire.specs.Share.{brought, shareOf}
@@ -54,7 +54,7 @@ unfolding listAlone alone shareTripping shareTripped shareReleased brought share
 share-alone = refl
 
 replies : answers (freshRack plainSupply (setupOf fittingList)) calls ≡ expected
-unfolding fittingList calls tripping tripped released expected callOf byteOn parse readField headerCode lengthFits valuesFit classOf heardOf asksOf rightSum askedBy parameterOf readAs findWord readNumber scaledValue wholeUnits wellFormed firstAt runValue allDigits readHex hexOf isHex stepOf replyTo obeyed repliedTo saidOf codeText wordText answerText ending answerOf modeWord pressOf actOf performed acted clearingQuery clearingOrder clearingAct codeOf ordered reset outDone fldDone remote remoteBy orderCode setCode sampled linesChanged anyRises falls bitAt pressed disarmed turnedOn turned stepped nearestIn signedOf leastOf mostOf withSetting settingOf settled onOf linesClear inLimit fltOf fresh figure decimals shortest fixed checksum total hexPair voltReading ampReading limitsOf table
+unfolding fittingList calls tripping tripped released expected callOf byteOn charOn parse readField headerCode lengthFits valuesFit classOf heardOf asksOf rightSum askedBy parameterOf readAs findWord readNumber scaledValue wholeUnits wellFormed firstAt runValue allDigits readHex hexOf isHex stepOf replyTo obeyed repliedTo saidOf codeText wordText answerText ending answerOf modeWord pressOf actOf performed acted clearingQuery clearingOrder clearingAct codeOf ordered reset outDone fldDone remote remoteBy orderCode setCode sampled linesChanged anyRises falls bitAt pressed disarmed turnedOn turned stepped nearestIn signedOf leastOf mostOf withSetting settingOf settled onOf linesClear inLimit fltOf fresh figure decimals shortest fixed checksum total hexPair voltReading ampReading limitsOf table
 replies = refl
 
 end-6 : plain plainSupply 0 (shareTripping ++ shareTripped ++ shareReleased) ≡ endState

@@ -8,12 +8,13 @@ use native.Mathlib.Omega.{arith}
 use lib.Dec.{eqb}
 use lib.ListN.{length, getD, take, length-append, length-take}
 use lib.Seq.{take-suc}
-use Rattle.wire.specs.Wire.{Wire, byte}
+use Rattle.wire.specs.Wire.{Wire, byte, charOn}
 use Rattle.wire.proofs.ForCode.{scan-more}
 use Rattle.serial.specs.declared.Line.{Line}
 use Rattle.serial.specs.View as serial
-use Rattle.serial.specs.View.{wireOf, charOn, Short}
-use Rattle.serial.proofs.Chars.{char-on, char-keeps}
+use Rattle.serial.specs.View.{wireOf, Short}
+use Rattle.wire.proofs.Stream.{on-other}
+use Rattle.serial.proofs.Chars.{char-keeps}
 use Rattle.slots.specs.View.{due}
 use Rattle.pieces.specs.Pieces.{Typing}
 
@@ -39,6 +40,6 @@ typing-more l m r p i h n t d =
     record {
       small = d (t .small) .small;
       selects = ap (λ (w : Wire). w .sel) is ∙ stays (wireOf m) x ∙ t .selects;
-      scans = λ γ u. rw (add-one, take-suc p i 0 h, map-append byte (take i p) (x ∷ []), scan-more γ u (wireOf l) (map byte (take i p)) (byte x), t .scans γ u, char-on γ u (wireOf m) x n, is) refl;
+      scans = λ γ u. rw (add-one, take-suc p i 0 h, map-append byte (take i p) (x ∷ []), scan-more γ u (wireOf l) (map byte (take i p)) (byte x), t .scans γ u, on-other γ u (wireOf m) x n, is) refl;
       grows = omega (arith, same, char-due (wireOf m) x, t .grows);
     }

@@ -9,12 +9,10 @@ use lib.Dec.{eqb, ltb}
 use lib.ListN.{length, take, set}
 use lib.Seq.{length-take-le, take-take, take-suc-set}
 use borrow.Author.Tests.{eq-eqb, ne-eqb, lt-ltb, le-ltb}
-use Rattle.base.specs.Choice.{pick}
 use Rattle.base.proofs.Choice.{pick-keeps}
-use Rattle.wire.specs.declared.Setup.{Setup}
-use Rattle.wire.specs.Wire.{Wire, Grammar, quiet, byteOn}
+use Rattle.wire.specs.Wire.{Wire, charOn}
 use Rattle.serial.specs.declared.Line.{Line}
-use Rattle.serial.specs.View.{charOn, Short, Typed}
+use Rattle.serial.specs.View.{Short, Typed}
 
 module _ (l : Line) (b : ℕ) (wide : length (l .kept) ≡ 64) (h : Short l) where
   pub typed-lf : b ≡ 10 → Typed l b l
@@ -55,21 +53,3 @@ pub char-keeps : (P : Wire → Type 0) (w : Wire) (b : ℕ) → P w
     → P (charOn w b)
 unfolding charOn
 char-keeps P w b lf back add full = pick-keeps P (eqb b 10) _ _ lf (pick-keeps P (eqb b 8) _ _ back (pick-keeps P (ltb (length (w .kept)) 64) _ _ add full))
-
--- a byte that is no CR, on the shared line: nothing is handed out
-pub char-on : (γ : Grammar) (u : Setup) (w : Wire) (b : ℕ) → eqb b 13 ≡ false → byteOn γ u w b ≡ quiet (charOn w b)
-unfolding byteOn charOn
-char-on γ u w b n = rw n (byKind (eqb b 10) (eqb b 8) (ltb (length (w .kept)) 64))
-  where
-    byKind : (lf bs room : Bool) →
-        pick lf (quiet w)
-        (pick bs (quiet (record { kept = take (length (w .kept) - 1) (w .kept); spoiled = w .spoiled; sel = w .sel }))
-        (pick room (quiet (record { kept = w .kept ++ (b ∷ []); spoiled = w .spoiled; sel = w .sel })) (quiet (record { kept = w .kept; spoiled = true; sel = w .sel }))))
-        ≡ quiet
-        (pick lf w
-        (pick bs (record { kept = take (length (w .kept) - 1) (w .kept); spoiled = w .spoiled; sel = w .sel })
-        (pick room (record { kept = w .kept ++ (b ∷ []); spoiled = w .spoiled; sel = w .sel }) (record { kept = w .kept; spoiled = true; sel = w .sel }))))
-    byKind true bs room = refl
-    byKind false true room = refl
-    byKind false false true = refl
-    byKind false false false = refl

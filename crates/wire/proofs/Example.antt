@@ -9,7 +9,7 @@ use lib.ListN.{length, getD, take, drop, replicate}
 use Rattle.base.specs.Choice.{pick, bit}
 use Rattle.base.proofs.Choice.{bit-small}
 use Rattle.base.specs.Text.{codes}
-use Rattle.wire.specs.Wire.{Entry, field, line, Class, select, faulty, global, other, byte, event, Parsed, refuse, accept, Grammar, Call, modelAt, parse, byteOn}
+use Rattle.wire.specs.Wire.{Entry, field, line, Class, select, faulty, global, other, byte, event, Parsed, refuse, accept, Grammar, Call, modelAt, parse, charOn, byteOn}
 use Rattle.wire.specs.Share.{typed, brought, shareOf}
 use Rattle.wire.specs.Rack.{Plain, Answer, refused, done, callOf, run, slot}
 use Rattle.wire.specs.Laws.{Trips, Laws}
@@ -102,11 +102,11 @@ unfolding brought typed parse setup list serial grammar class reading
 share-2 = refl
 
 slot-0 : slot toy (run toy setup list) 0 ≡ record { trip = false; fields = 1; entries = 6 }
-unfolding callOf parse byteOn setup list serial grammar class reading isField trips frees
+unfolding callOf parse byteOn charOn setup list serial grammar class reading isField trips frees
 slot-0 = refl
 
 slot-2 : slot toy (run toy setup list) 2 ≡ record { trip = true; fields = 0; entries = 8 }
-unfolding callOf parse byteOn setup list serial grammar class reading isField trips frees
+unfolding callOf parse byteOn charOn setup list serial grammar class reading isField trips frees
 slot-2 = refl
 
 -- each call of the list: 0, or the number of its refusal
@@ -124,7 +124,7 @@ told (refused n) = []
 told (done r used t) = used ∷ t
 
 answer : told (callOf toy (run toy setup list) (serial (codes "A2\rX\r"))) ≡ 6 ∷ codes "OK\roff\r"
-unfolding told callOf parse byteOn setup list serial grammar class reading isField trips frees
+unfolding told callOf parse byteOn charOn setup list serial grammar class reading isField trips frees
 answer = refl
 
 data Kind : Type 0 where

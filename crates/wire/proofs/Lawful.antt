@@ -9,7 +9,7 @@ use lib.Dec.{eqb, ltb}
 use lib.ListN.{length, length-append, length-take}
 use borrow.Author.Tests.{ltb-true}
 use Rattle.base.specs.Choice.{pick}
-use Rattle.wire.specs.Wire.{Class, select, faulty, global, other, Grammar, fitted, Wire, Sent, Call, Item, byte, event, nobody, freshWire, byClass, byteOn, itemOn, scan, LawfulWire}
+use Rattle.wire.specs.Wire.{Class, select, faulty, global, other, Grammar, fitted, Wire, Sent, Call, Item, byte, event, nobody, freshWire, byClass, charOn, byteOn, itemOn, scan, LawfulWire}
 use Rattle.wire.specs.Share.{stream}
 use Rattle.wire.specs.Rack.{Plain, Rack, runFrom, freshRack, run}
 use Rattle.wire.specs.declared.Setup.{Setup}
@@ -31,18 +31,23 @@ module _ (u : Setup) where
   class-lawful w global h = record { short = omega arith; chosen = h .chosen }
   class-lawful w other h = record { short = omega arith; chosen = h .chosen }
 
+  char-lawful : (w : Wire) (b : ℕ) → LawfulWire u w → LawfulWire u (charOn w b)
+  unfolding charOn
+  char-lawful w b h =
+      pick-has (LawfulWire u) (eqb b 10) (λ q. h) (λ q.
+      pick-has (LawfulWire u) (eqb b 8) (λ q. record { short = rw length-take (omega arith); chosen = h .chosen }) (λ q.
+      pick-has (LawfulWire u) (ltb (length (w .kept)) 64)
+      (λ q. record { short = rw length-append (omega (arith, ltb-true (length (w .kept)) 64 q)); chosen = h .chosen })
+      (λ q. record { short = h .short; chosen = h .chosen })))
+
 module _ (γ : Grammar) (u : Setup) where
   -- each byte, item and stream leaves a line in bounds
   pub byte-lawful : (w : Wire) (b : ℕ) → LawfulWire u w → LawfulWire u (byteOn γ u w b .wire)
   unfolding byteOn
   byte-lawful w b h =
-      pick-has P (eqb b 10) (λ q. h) (λ q.
-      pick-has P (eqb b 8) (λ q. record { short = rw length-take (omega arith); chosen = h .chosen }) (λ q.
-      pick-has P (eqb b 13) (λ q. class-lawful u w (γ .classOf (w .kept) (w .spoiled)) h) (λ q.
-      pick-has P (ltb (length (w .kept)) 64) (λ q. record { short = rw length-append (omega (arith, ltb-true (length (w .kept)) 64 q)); chosen = h .chosen }) (λ q. record { short = h .short; chosen = h .chosen }))))
-    where
-      P : Sent → Type 0
-      P s = LawfulWire u (s .wire)
+      pick-has (λ (s : Sent). LawfulWire u (s .wire)) (eqb b 13)
+      (λ q. class-lawful u w (γ .classOf (w .kept) (w .spoiled)) h)
+      (λ q. char-lawful u w b h)
 
   pub item-lawful : (w : Wire) (i : Item) → LawfulWire u w → LawfulWire u (itemOn γ u w i .wire)
   item-lawful w (byte b) h = byte-lawful w b h

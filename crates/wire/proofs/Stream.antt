@@ -1,5 +1,5 @@
 -- The line's one pass over the stream hands out what the share's passes read off it; and both may be cut anywhere.
-use mathlib.Core.Path.{_≡_, refl, ap}
+use mathlib.Core.Path.{_≡_, refl, ap, _∙_}
 use mathlib.Core.Bool.{Bool, true, false}
 use mathlib.Core.List.{List, [], _∷_, _++_, foldl-append, append-assoc}
 use Prim.Native.Nat.{ℕ}
@@ -8,7 +8,7 @@ use lib.ListN.{length}
 use borrow.Author.Tests.{eqb-true}
 use Rattle.base.specs.Choice.{pick}
 use Rattle.wire.specs.Machine.{given, keep, flat}
-use Rattle.wire.specs.Wire.{Entry, line, Delivery, one, all, say, Class, select, faulty, global, other, Grammar, fitted, Wire, Sent, quiet, followed, Item, byte, event, Call, nobody, freshWire, parse, byClass, byteOn, itemOn, scan}
+use Rattle.wire.specs.Wire.{Entry, line, Delivery, one, all, say, Class, select, faulty, global, other, Grammar, fitted, Wire, Sent, quiet, followed, Item, byte, event, Call, nobody, freshWire, parse, byClass, charOn, byteOn, itemOn, scan}
 use Rattle.wire.specs.Share.{items, stream, Typed, typing, typed, pieces, selected, handed, routes, brought, forSlot, shareOf}
 use Rattle.wire.specs.declared.Setup.{Setup}
 use Rattle.wire.proofs.Machine.{keep-append, flat-append}
@@ -28,7 +28,7 @@ sent-one true a e = refl
 sent-one false a e = refl
 
 -- a choice of what is typed, made before or after it is put on the line
-pushed : (f : Typed → Sent) (p q r : Bool) (w x y z : Typed) → pick p (f w) (pick q (f x) (pick r (f y) (f z))) ≡ f (pick p w (pick q x (pick r y z)))
+pushed : (f : Typed → Wire) (p q r : Bool) (w x y z : Typed) → pick p (f w) (pick q (f x) (pick r (f y) (f z))) ≡ f (pick p w (pick q x (pick r y z)))
 pushed f true q r w x y z = refl
 pushed f false true r w x y z = refl
 pushed f false false true w x y z = refl
@@ -66,9 +66,14 @@ module _ (γ : Grammar) (u : Setup) where
   on-cr w = refl
 
   -- any byte but CR only types
-  pub on-char : (sel : ℕ) (t : Typed) (b : ℕ) → eqb b 13 ≡ false → byteOn γ u (wireOf sel t) b ≡ quiet (wireOf sel (typing t b))
+  pub on-other : (w : Wire) (b : ℕ) → eqb b 13 ≡ false → byteOn γ u w b ≡ quiet (charOn w b)
   unfolding byteOn
-  on-char sel t b r = rw r (pushed (λ x. quiet (wireOf sel x)) (eqb b 10) (eqb b 8) (ltb (length (t .kept)) 64) t _ _ _)
+  on-other w b r = rw r refl
+
+  pub on-char : (sel : ℕ) (t : Typed) (b : ℕ) → eqb b 13 ≡ false → byteOn γ u (wireOf sel t) b ≡ quiet (wireOf sel (typing t b))
+  unfolding charOn
+  on-char sel t b r =
+      on-other (wireOf sel t) b r ∙ ap quiet (pushed (wireOf sel) (eqb b 10) (eqb b 8) (ltb (length (t .kept)) 64) t _ _ _)
 
   -- from any line under way, whose bytes since the last CR are bs
   one-pass : (sel : ℕ) (bs : List ℕ) (is : List Item) → keep brings (scan γ u (wireOf sel (typed bs)) is .sent) ≡ routes γ u sel (pieces bs is)

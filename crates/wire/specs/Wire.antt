@@ -98,16 +98,19 @@ byClass u w (faulty t) = ending (w .sel) (given (fitted u (w .sel)) (say t))
 byClass u w global = ending (w .sel) (all (line (w .kept) (w .spoiled)) ∷ [])
 byClass u w other = ending (w .sel) (given (fitted u (w .sel)) (one (w .sel) (line (w .kept) (w .spoiled))))
 
+-- a serial byte that ends no line: LF (10) does nothing, backspace (8) takes the last kept character back; past 64 kept
+-- characters a byte is lost and the line spoiled
+unfoldable pub charOn : Wire → ℕ → Wire
+charOn w b =
+    pick (eqb b 10) w
+    (pick (eqb b 8) (record { kept = take (length (w .kept) - 1) (w .kept); spoiled = w .spoiled; sel = w .sel })
+    (pick (ltb (length (w .kept)) 64) (record { kept = w .kept ++ b ∷ []; spoiled = w .spoiled; sel = w .sel })
+    (record { kept = w .kept; spoiled = true; sel = w .sel })))
+
 module _ (γ : Grammar) (u : Setup) where
-  -- a serial byte: LF (10) does nothing, backspace (8) takes the last kept character back, CR (13) ends the line; past 64 kept
-  -- characters a byte is lost and the line spoiled
+  -- a serial byte: CR (13) ends the line
   unfoldable pub byteOn : Wire → ℕ → Sent
-  byteOn w b =
-      pick (eqb b 10) (quiet w)
-      (pick (eqb b 8) (quiet (record { kept = take (length (w .kept) - 1) (w .kept); spoiled = w .spoiled; sel = w .sel }))
-      (pick (eqb b 13) (byClass u w (γ .classOf (w .kept) (w .spoiled)))
-      (pick (ltb (length (w .kept)) 64) (quiet (record { kept = w .kept ++ b ∷ []; spoiled = w .spoiled; sel = w .sel }))
-      (quiet (record { kept = w .kept; spoiled = true; sel = w .sel })))))
+  byteOn w b = pick (eqb b 13) (byClass u w (γ .classOf (w .kept) (w .spoiled))) (quiet (charOn w b))
 
   -- an item of the stream: a field of another tag leaves the line as it is
   abbrev pub itemOn : Wire → Item → Sent

@@ -1,7 +1,6 @@
 -- `stepped_setting` meets its contract.
 use native.Mathlib.Omega.{arith}
-use Rattle.settings.proofs.Numbers.{most-fits}
-use Rattle.settings.specs.Settings.{stepped, nearestIn}
+use Rattle.settings.proofs.Numbers.{most-fits, step-is}
 use borrow.Author.Needs.{needs}
 use Rattle.settings.proofs.stepped_setting.Statement.{statement}
 use Rattle.settings.proofs.stepped_setting.Tie as tie
@@ -28,8 +27,9 @@ cast-result : tie.Need-cast-result
 cast-result c = omega (arith, c .smaller .ensures, c .before .before .before .before .most-of .ensures, most-fits (c .before .before .before .before .before .before .args .model) (c .before .before .before .before .before .before .args .s) (c .before .before .before .before .before .before .args .t))
 
 returns : tie.Need-returns
-unfolding stepped nearestIn
-returns c = rw (← c .before .before .before .before .before .least-of .ensures, ← c .before .before .before .before .most-of .ensures, ← c .before .before .before .setting .ensures, ← c .before .before .summed .ensures, ← c .before .larger .ensures) (c .smaller .ensures)
+returns c =
+    let ends = c .before .before .before .before in
+    step-is _ _ _ _ (ends .before .least-of .ensures) (ends .most-of .ensures) (c .before .before .before .setting .ensures) (c .before .before .summed .ensures) (c .before .larger .ensures) (c .smaller .ensures)
 
 pub stepped-setting-spec : {M : Type 1} → statement M
 stepped-setting-spec =
