@@ -1,14 +1,14 @@
 -- Margins and limits hold of the fresh supply and are kept by whatever a supply is asked; accepted settings are the admissible ones.
 use mathlib.Core.Path.{_≡_, refl}
-use mathlib.Core.Bool.{Bool, true, false, not, _&&_, _||_}
-use Prim.Native.Nat.{ℕ, _*_, _≤_}
+use mathlib.Core.Bool.{Bool, true, false, not, _&&_}
+use Prim.Native.Nat.{ℕ}
 use native.Mathlib.Omega.{arith}
-use lib.Dec.{ltb, leb, eqb, lit<}
-use borrow.Author.Tests.{ltb-false, le-ltb, eqb-true}
+use lib.Dec.{eqb}
+use borrow.Author.Tests.{le-ltb, eqb-true}
 use Rattle.base.specs.Choice.{pick}
-use Rattle.base.proofs.Choice.{pick-keeps, or-false, passed}
+use Rattle.base.proofs.Choice.{pick-keeps}
 use Rattle.models.specs.declared.Limits.{Limits}
-use Rattle.models.specs.Models.{limitsOf, voltReading}
+use Rattle.models.specs.Models.{limitsOf}
 use Rattle.models.proofs.Rules.{ovp-room}
 use Rattle.supply.specs.declared.Supply.{Supply}
 use Rattle.supply.specs.declared.Target.{Target}
@@ -19,13 +19,13 @@ use Rattle.supply.specs.declared.Order.{Order}
 use Rattle.supply.specs.declared.Order.the-variants.{Set, Ovm, Out, Fld, Ast, Rmt, Fena, Cls, Rst}
 use Rattle.supply.specs.declared.Act.{Act}
 use Rattle.supply.specs.declared.Act.the-variants.{Lines, Sample, Press, Turn, Obey, Ask, Nothing}
-use Rattle.supply.specs.With.{withFeve, withWant, withArmed, withMode, withFoldTrip, withOvpTrip, withCounts}
+use Rattle.supply.specs.With.{withFeve, withWant, withArmed, withMode, withFoldTrip, withOvpTrip}
 use Rattle.supply.specs.State.{fresh}
-use Rattle.supply.specs.Flt.{onOf, linesClear, inLimit, settled}
-use Rattle.settings.specs.Settings.{withSetting, leastOf, mostOf, stepped}
+use Rattle.supply.specs.Flt.{onOf, linesClear, settled}
+use Rattle.settings.specs.Settings.{withSetting, stepped}
 use Rattle.samples.specs.Samples.{sampled}
 use Rattle.events.specs.Events.{anyRises, falls, acFallen, linesChanged, turnedOn, disarmed, pressed, turned}
-use Rattle.codes.specs.Codes.{above105, setCode, orderCode}
+use Rattle.codes.specs.Codes.{setCode, orderCode}
 use Rattle.orders.specs.Orders.{remote, remoteBy, outDone, fldDone, reset, ordered}
 use Rattle.acts.specs.Acts.{codeOf, clearingQuery, clearingAct, cleared, acted, closed, performed}
 use Rattle.settings.specs.Lawful.{Kept, Lawful, Admissible}

@@ -5,7 +5,7 @@ use Prim.Native.Nat.{ℕ, _*_, _%_, _^_, _<_, _≤_}
 use native.Mathlib.Omega.{arith}
 use lib.Dec.{ltb, lit<}
 use borrow.Author.Tests.{ltb-false}
-use Rattle.base.proofs.Choice.{or-false, passed}
+use Rattle.base.proofs.Choice.{neither, passed}
 use Rattle.models.specs.declared.Limits.{Limits}
 use Rattle.models.specs.Models.{limitsOf}
 use Rattle.settings.specs.Settings.{leastOf, mostOf}
@@ -36,7 +36,7 @@ module _ (l : Limits) (s : Supply) where
   accepted-range Ovp n e =
       let a = passed (ltb n (l .«ovp_least») || ltb (l .«ovp_most») n) 196 _ e in
       let b = passed (ltb (20 * n) (21 * s .pv)) 227 _ (a .1) in
-      let o = or-false (ltb n (l .«ovp_least»)) (ltb (l .«ovp_most») n) (a .0) in
+      let o = neither (ltb n (l .«ovp_least»)) (ltb (l .«ovp_most») n) (a .0) in
       let ovp-least : l .«ovp_least» ≤ n = ltb-false _ _ (o .0) in
       let ovp-margin : 21 * s .pv ≤ 20 * n = ltb-false _ _ (b .0) in
       (omega (arith, ceiling-le 20 (21 * s .pv) n (lit< tt) (omega arith)), ltb-false _ _ (o .1))

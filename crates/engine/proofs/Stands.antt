@@ -2,7 +2,7 @@
 use Prim.Native.Nat.{ℕ, zero, suc, _+_, _-_, _*_, _≤_, _<_}
 use mathlib.Core.Path.{_≡_, refl, sym, ap, subst, _∙_}
 use mathlib.Core.Logic.{inl, inr}
-use mathlib.Core.Bool.{Bool, true, false, true≢false, _&&_, _||_, not}
+use mathlib.Core.Bool.{Bool, true, false, true≢false, _&&_, _||_, not, and-eq-true-iff}
 use mathlib.Core.List.{List, [], _++_, map}
 use native.Mathlib.Omega.{arith}
 use native.Mathlib.Nat.{add-zero, zero-add}
@@ -13,7 +13,6 @@ use borrow.Author.Tests.{ltb-true, ltb-false, eqb-true, ne-eqb}
 use Rattle.base.specs.Choice.{pick, bit}
 use Rattle.base.specs.Lists.{eachTo}
 use Rattle.base.specs.Put.{Put}
-use Rattle.base.proofs.Choice.{and-both}
 use Rattle.base.proofs.Lists.{getD-any, set-same}
 use Rattle.base.proofs.Put.{put-none, put-then, put-whole, put-length}
 use Rattle.buffers.proofs.Printed.{each-first}
@@ -51,7 +50,7 @@ module _ (u : Setup) (l : Line) (x : Supply) (a : ℕ) (s : List ℕ) (left : �
   piece-within (inr d) = d .within
 
   pub piece-spends : (t : Bool) → PieceDoes u l x a s left p b at b′ → (eqb (p .code) 0 && t) ≡ true → 0 < p .used
-  piece-spends t (inl d) e = absurd (d .some (eqb-true (p .code) 0 (and-both (eqb (p .code) 0) t e .0)))
+  piece-spends t (inl d) e = absurd (d .some (eqb-true (p .code) 0 (and-eq-true-iff (eqb (p .code) 0) t .0 e .0)))
   piece-spends t (inr d) e = d .some
 
 -- the replies so far are those of fields in turn, whose end is R; `since` are the slots that the field found which was begun; and there is room for those of the field that was begun
@@ -327,7 +326,7 @@ module _ {u : Setup} {s b : List ℕ} {full : ℕ} {ss₀ : List Supply} {l₀ :
           same = m;
           slots = n;
           kept = w;
-          quiet = λ g. eqb-true (p .code) 0 (and-both (eqb (p .code) 0) (ltb 0 (p .left) || ltb (p .next) full) g .0);
+          quiet = λ g. eqb-true (p .code) 0 (and-eq-true-iff (eqb (p .code) 0) (ltb 0 (p .left) || ltb (p .next) full) .0 g .0);
           unmoved = λ j r. rw e (unmoved-next u s j r ss₀ l₀ b full ss l used next left code b₁ (rw on at (f .unmoved j r)) (getD ss k z) k there p b₂ a does);
           stands = λ h long. rw e (stands-next _ s b full u ss l used next left code b₁ (rw on at (f .stands h long)) long (f .inside) (getD ss k z) k there p b₂ a reach (omega (arith, f .slots)) (f .kept) does);
         }

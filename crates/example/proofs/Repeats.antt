@@ -1,12 +1,11 @@
 -- A run repeats: equal shares leave equal supplies, and calls that are no concern of a slot are not in its share.
 use Prim.Native.Nat.{ℕ}
 use mathlib.Core.Path.{_≡_, refl, sym, ap, _∙_}
-use mathlib.Core.Bool.{Bool, true, false, true≢false, not}
+use mathlib.Core.Bool.{Bool, true, false, true≢false, not, and-eq-true-iff}
 use mathlib.Core.List.{List, [], _∷_, _++_, map}
 use lib.Dec.{eqb}
 use borrow.Author.Tests.{ne-eqb, not-true}
 use Rattle.base.specs.Choice.{pick}
-use Rattle.base.proofs.Choice.{and-both}
 use Rattle.wire.specs.Machine.{keep, flat}
 use Rattle.wire.specs.Wire.{Class, Delivery, one, line, Item, byte, event, Entry, Call, nobody, parse}
 use Rattle.wire.specs.declared.Setup.{Setup}
@@ -81,7 +80,7 @@ module _ (u : Setup) (a : ℕ) where
   past [] js h bytes sel = refl
   past (byte b ∷ is) js h bytes sel = absurd (true≢false (sym h))
   past (event b e ∷ is) js h bytes sel =
-      let both = and-both (not (eqb a b)) (elsewhere a is) h in
+      let both = and-eq-true-iff (not (eqb a b)) (elsewhere a is) .0 h in
       rw (not-true (eqb a b) (both .0)) (past is js (both .1) bytes sel)
 
   -- a call more, with or without its being dropped

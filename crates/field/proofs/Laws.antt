@@ -1,19 +1,19 @@
--- What a field's bytes come to: a law for each outcome, what a good head says of the payload, and the bounds of its numbers.
-use Prim.Native.Nat.{ℕ, _+_, _^_, _≤_, _<_}
+-- What a field's bytes come to: a law for each outcome, what a good head says of the payload.
+use Prim.Native.Nat.{ℕ, _+_, _≤_, _<_}
 use mathlib.Core.Path.{_≡_, refl, sym, ap, _∙_}
 use mathlib.Core.Logic.{_⊎_, inl, inr}
 use mathlib.Core.List.{List, [], _∷_, _++_, map}
-use mathlib.Core.Bool.{Bool, true, false, not, _&&_, false≢true}
+use mathlib.Core.Bool.{Bool, true, false, not, _&&_, false≢true, and-eq-true-iff}
 use native.Mathlib.Omega.{arith}
 use lib.Dec.{leb, ltb, eqb}
 use lib.ListN.{length, getD, take, drop, length-drop, length-append}
 use lib.Seq.{getD-take, getD-drop, length-take-le, take-append-seam, take-append-le, drop-append-le}
 use borrow.Author.Tests.{ltb-true, ltb-false, leb-true, eqb-true, eqb-false, not-false, lt-ltb, le-ltb, eq-eqb, ne-eqb}
 use Rattle.base.specs.Choice.{pick}
-use Rattle.base.proofs.Choice.{pick-keeps, and-both, passed}
+use Rattle.base.proofs.Choice.{pick-keeps, passed}
 use Rattle.wire.specs.Wire.{field, Item, byte, event, Parsed, refuse, accept}
 use Rattle.supply.specs.declared.Act.the-variants.{Sample}
-use Rattle.field.specs.Fields.{pairAt, quadAt, tagOf, lengthOf, payloadOf, lengthFits, headerCode, isSample, valuesFit, actOf, readField}
+use Rattle.field.specs.Fields.{pairAt, tagOf, lengthOf, payloadOf, lengthFits, headerCode, isSample, valuesFit, actOf, readField}
 
 -- THE HEAD, a law for each outcome in the order of the tests; tag, n and r are what the code has for the tag, the length and its test
 pub too-short : (b : List ℕ) → length b < 3 → 2 ≡ headerCode b
@@ -42,7 +42,7 @@ module _ (b : List ℕ) (tag n : ℕ) (et : tag ≡ tagOf b) (en : n ≡ lengthO
 -- THE LENGTHS
 pub serial-length : (n : ℕ) → lengthFits 1 n ≡ true → (1 ≤ n) × (n ≤ 16)
 unfolding lengthFits
-serial-length n e = let t = and-both (leb 1 n) (leb n 16) e in (leb-true 1 n (t .0), leb-true n 16 (t .1))
+serial-length n e = let t = and-eq-true-iff (leb 1 n) (leb n 16) .0 e in (leb-true 1 n (t .0), leb-true n 16 (t .1))
 
 -- every other tag has two bytes at least
 other-length : (t n : ℕ) → (t ≡ 1 → ⊥) → lengthFits t n ≡ true → 2 ≤ n
@@ -56,7 +56,7 @@ other-length t n h =
 length-most : (t n : ℕ) → lengthFits t n ≡ true → n ≤ 16
 unfolding lengthFits
 length-most t n =
-    pick-keeps (λ (x : Bool). x ≡ true → n ≤ 16) (eqb t 1) (leb 1 n && leb n 16) (pick (eqb t 3) (eqb n 6) (pick (eqb t 5) (eqb n 5) (eqb n 2))) (λ e. leb-true n 16 (and-both (leb 1 n) (leb n 16) e .1))
+    pick-keeps (λ (x : Bool). x ≡ true → n ≤ 16) (eqb t 1) (leb 1 n && leb n 16) (pick (eqb t 3) (eqb n 6) (pick (eqb t 5) (eqb n 5) (eqb n 2))) (λ e. leb-true n 16 (and-eq-true-iff (leb 1 n) (leb n 16) .0 e .1))
     (pick-keeps (λ (x : Bool). x ≡ true → n ≤ 16) (eqb t 3) (eqb n 6) (pick (eqb t 5) (eqb n 5) (eqb n 2)) (λ e. omega (arith, eqb-true n 6 e))
     (pick-keeps (λ (x : Bool). x ≡ true → n ≤ 16) (eqb t 5) (eqb n 5) (eqb n 2) (λ e. omega (arith, eqb-true n 5 e)) (λ e. omega (arith, eqb-true n 2 e))))
 
@@ -68,7 +68,7 @@ header-good b e =
     let three = passed (not (leb 1 (tagOf b) && leb (tagOf b) 5)) 2 _ (two .1) in
     let four = passed (not (lengthFits (tagOf b) (lengthOf b))) 3 _ (three .1) in
     let five = passed (ltb (length b) (3 + lengthOf b)) 4 0 (four .1) in
-    let tag = and-both (leb 1 (tagOf b)) (leb (tagOf b) 5) (not-false _ (three .0)) in
+    let tag = and-eq-true-iff (leb 1 (tagOf b)) (leb (tagOf b) 5) .0 (not-false _ (three .0)) in
     (ltb-false _ _ (five .0), leb-true 1 _ (tag .0), leb-true _ 5 (tag .1), not-false _ (four .0))
 
 pub payload-length : (b : List ℕ) → headerCode b ≡ 0 → length (payloadOf b) ≡ lengthOf b
@@ -86,7 +86,7 @@ module _ (b : List ℕ) (e : isSample b ≡ true) where
     where
       byLength : (t : Bool) → ltb (length b) 8 ≡ t → pick t false (eqb (tagOf b) 5 && eqb (lengthOf b) 5) ≡ true → (8 ≤ length b) × (tagOf b ≡ 5) × (lengthOf b ≡ 5)
       byLength true h f = absurd (false≢true f)
-      byLength false h f = let t = and-both (eqb (tagOf b) 5) (eqb (lengthOf b) 5) f in (ltb-false (length b) 8 h, eqb-true (tagOf b) 5 (t .0), eqb-true (lengthOf b) 5 (t .1))
+      byLength false h f = let t = and-eq-true-iff (eqb (tagOf b) 5) (eqb (lengthOf b) 5) .0 f in (ltb-false (length b) 8 h, eqb-true (tagOf b) 5 (t .0), eqb-true (lengthOf b) 5 (t .1))
 
   pub sample-tag : tagOf b ≡ 5
   sample-tag = sample-parts .1
@@ -258,11 +258,3 @@ module _ (b x : List ℕ) (long : 3 ≤ length b) where
         byHeader false e =
             let bad = eqb-false (headerCode b) 0 e in
             read-refused fits more (λ z. bad (sym (header-longer five) ∙ z)) ∙ ap refuse (header-longer five) ∙ sym (read-refused fits b bad)
-
--- THE BOUNDS of numbers made of bytes
-module _ (s : List ℕ) (i : ℕ) (bytes : (j : ℕ) → getD s j 0 < 256) where
-  pub pair-lt : pairAt s i < 2 ^ 16
-  pair-lt = omega (arith, bytes i, bytes (i + 1))
-
-  pub quad-lt : quadAt s i < 2 ^ 32
-  quad-lt = omega (arith, bytes i, bytes (i + 1), bytes (i + 2), bytes (i + 2 + 1))

@@ -1,7 +1,7 @@
 -- Laws of hexadecimal digits and of sums: what is read and placed digit by digit, and that a byte placed is read as itself.
 use Prim.Native.Nat.{ℕ, _+_, _-_, _*_, _/_, _%_, _<_, _≤_}
 use mathlib.Core.Path.{_≡_, refl, ap}
-use mathlib.Core.Bool.{Bool, true, false, _&&_, false≢true}
+use mathlib.Core.Bool.{Bool, true, false, _&&_, false≢true, and-eq-true-iff}
 use mathlib.Core.List.{List}
 use native.Mathlib.Numerals.{add-one}
 use native.Mathlib.Omega.{arith}
@@ -10,7 +10,6 @@ use lib.ListN.{length, getD, drop, drop-of-length-le}
 use lib.Seq.{drop-cons}
 use borrow.Author.Tests.{le-leb, lt-leb, eq-eqb, ne-eqb, ltb-true, ltb-false, leb-true}
 use Rattle.base.specs.Choice.{pick}
-use Rattle.base.proofs.Choice.{and-both}
 use Rattle.figures.specs.Number.{numberIs, noNumber}
 use Rattle.hex.specs.Hex.{isHex, hexOf, readHex, hexDigit, hexPair, total}
 
@@ -47,21 +46,21 @@ hex-of-lt b e = byDigit (leb 48 b && leb b 57) refl
   where
     bySmall : (t : Bool) → (leb 97 b && leb b 102) ≡ t → t ≡ true → pick (leb b 57) (b - 48) (pick (leb b 70) (b - 55) (b - 87)) < 16
     bySmall true p q =
-        let h = and-both (leb 97 b) (leb b 102) p in
+        let h = and-eq-true-iff (leb 97 b) (leb b 102) .0 p in
         let l = leb-true 97 b (h .0) in
         rw (lt-leb b 57 (omega arith), lt-leb b 70 (omega arith)) (omega (arith, leb-true b 102 (h .1)))
     bySmall false p q = absurd (false≢true q)
 
     byCapital : (leb 48 b && leb b 57) ≡ false → (t : Bool) → (leb 65 b && leb b 70) ≡ t → pick (leb b 57) (b - 48) (pick (leb b 70) (b - 55) (b - 87)) < 16
     byCapital n true p =
-        let h = and-both (leb 65 b) (leb b 70) p in
+        let h = and-eq-true-iff (leb 65 b) (leb b 70) .0 p in
         let l = leb-true 65 b (h .0) in
         rw (lt-leb b 57 (omega arith), h .1) (omega (arith, leb-true b 70 (h .1)))
     byCapital n false p = bySmall (leb 97 b && leb b 102) refl (rw (n, p) at e)
 
     byDigit : (t : Bool) → (leb 48 b && leb b 57) ≡ t → pick (leb b 57) (b - 48) (pick (leb b 70) (b - 55) (b - 87)) < 16
     byDigit true p =
-        let h = and-both (leb 48 b) (leb b 57) p in
+        let h = and-eq-true-iff (leb 48 b) (leb b 57) .0 p in
         rw (h .1) (omega (arith, leb-true b 57 (h .1)))
     byDigit false p = byCapital p (leb 65 b && leb b 70) refl
 
@@ -72,7 +71,7 @@ hex-lt t = byTest (eqb (length t) 2 && (isHex (getD t 0 0) && isHex (getD t 1 0)
   where
     byTest : (b : Bool) → (eqb (length t) 2 && (isHex (getD t 0 0) && isHex (getD t 1 0))) ≡ b → pick b (numberIs (hexOf (getD t 0 0) * 16 + hexOf (getD t 1 0))) noNumber .value < 256
     byTest true e =
-        let h = and-both (isHex (getD t 0 0)) (isHex (getD t 1 0)) (and-both (eqb (length t) 2) (isHex (getD t 0 0) && isHex (getD t 1 0)) e .1) in
+        let h = and-eq-true-iff (isHex (getD t 0 0)) (isHex (getD t 1 0)) .0 (and-eq-true-iff (eqb (length t) 2) (isHex (getD t 0 0) && isHex (getD t 1 0)) .0 e .1) in
         omega (arith, hex-of-lt (getD t 0 0) (h .0), hex-of-lt (getD t 1 0) (h .1))
     byTest false e = omega arith
 

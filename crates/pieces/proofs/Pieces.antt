@@ -13,11 +13,11 @@ use lib.Seq.{take-suc, take-take, take-add, drop-drop, length-take-le}
 use borrow.Author.Tests.{lt-ltb, ltb-false, eqb-true, eqb-false, ne-eqb}
 use Rattle.base.specs.Choice.{pick}
 use Rattle.base.specs.Lists.{eachTo}
-use Rattle.base.proofs.Choice.{or-false}
+use Rattle.base.proofs.Choice.{neither}
 use Rattle.base.proofs.Lists.{set-same}
 use Rattle.base.proofs.Put.{put-none}
 use Rattle.wire.specs.declared.Setup.{Setup}
-use Rattle.wire.specs.Wire.{Sent, byte, event, field, refuse, accept, modelAt, fitted, quiet, followed, scan, byteOn}
+use Rattle.wire.specs.Wire.{Sent, byte, event, field, refuse, accept, modelAt, fitted, quiet, followed, scan, charOn, byteOn}
 use Rattle.wire.proofs.ForCode.{scan-more, deliver-one}
 use Rattle.supply.specs.declared.Supply.{Supply}
 use Rattle.supply.specs.declared.Order.the-variants.{Cls}
@@ -43,7 +43,7 @@ feed-within p i r (inr e) h = (omega (arith, e .0), omega (arith, e .0, e .1))
 -- an LF behind serial bytes changes nothing
 module _ (u : Setup) (l : Line) (p : List ℕ) (i : ℕ) (h : i < length p) (lf : getD p i 0 ≡ 10) where
   feed-quiet : (s : Sent) → followed s (byteOn grammar u (s .wire) 10) ≡ s
-  unfolding byteOn
+  unfolding byteOn charOn
   feed-quiet s = rw append-nil refl
 
   feed-sent : scan grammar u (wireOf l) (map byte (take (i + 1) p)) ≡ scan grammar u (wireOf l) (map byte (take i p))
@@ -122,7 +122,7 @@ module _ (u : Setup) (l : Line) (s : Supply) (p : List ℕ) (head : ℕ) (b : Li
 
 -- a piece of no serial bytes is a field that names its address
 pub not-serial : (s : List ℕ) (left : ℕ) → isSerial s left ≡ false → (left ≡ 0) × (tagOf s ≡ 1 → ⊥)
-not-serial s left e = let k = or-false (ltb 0 left) (eqb (tagOf s) 1) e in (omega (arith, ltb-false 0 left (k .0)), eqb-false (tagOf s) 1 (k .1))
+not-serial s left e = let k = neither (ltb 0 left) (eqb (tagOf s) 1) e in (omega (arith, ltb-false 0 left (k .0)), eqb-false (tagOf s) 1 (k .1))
 
 -- serial bytes of which some are taken and some are left
 left-over : (s : List ℕ) (head taken left n : ℕ) → taken + left ≡ n

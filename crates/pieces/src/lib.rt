@@ -140,7 +140,6 @@ fn take_line(
     requires { ⌜ head ≤ 3 ⌝ }
     ensures { λ r. ⌜ (length (now (kept .exit)) ≡ length (now (kept .entry))) × LineDoes u (lineOf (now (kept .entry)) count spoiled selected) s (now (p .entry)) head (afterPiece (now (kept .exit)) r) (now (buf .entry)) at (now (buf .exit)) ⌝ }
 {
-    let known = slots::measured(s);
     let t = take_chars(kept, count, spoiled, p);
     let n = t.next;
     let size = p.len();
@@ -150,7 +149,7 @@ fn take_line(
     let taken = past_feed(p, n + 1);
     let used = head + taken;
     let left = size - taken;
-    let e = slots::end_one(u, kept, t.count, t.spoiled, selected, known, buf, at);
+    let e = slots::end_one(u, kept, t.count, t.spoiled, selected, s, buf, at);
     line_ended(e, used, left)
 }
 

@@ -2,14 +2,14 @@
 use Prim.Native.Nat.{ℕ, _+_, _-_, _*_, _^_, _<_, _≤_}
 use mathlib.Core.Path.{_≡_, refl, sym, _∙_}
 use mathlib.Core.List.{List}
-use mathlib.Core.Bool.{Bool, true, false, false≢true}
+use mathlib.Core.Bool.{Bool, true, false, false≢true, and-eq-true-iff}
 use native.Mathlib.Nat.{lt-of-lt-of-le}
 use native.Mathlib.Omega.{arith}
 use lib.Dec.{leb, eqb, lit<, lit≤}
 use lib.ListN.{length, getD, length-append, length-take, length-map}
 use borrow.Author.Tests.{eqb-false, leb-true}
 use Rattle.base.specs.Choice.{pick}
-use Rattle.base.proofs.Choice.{pick-keeps, and-both}
+use Rattle.base.proofs.Choice.{pick-keeps}
 use Rattle.models.proofs.Rules.{volts-small, amps-small}
 use Rattle.prints.specs.Figure.{figure}
 use Rattle.hex.specs.Hex.{hexPair}
@@ -191,9 +191,9 @@ room m s z t = record { fair = bySum (hasSum t) (rightSum t) refl; short = any-s
     bySum : (h r : Bool) → hasSum t ≡ h
         → length (repliedTo m s (pick h (pick r (heardAs (asksOf (summedPart t)) true) (heardAs (Error c04) false)) (heardAs (asksOf t) false) .asks) (pick h (pick r (heardAs (asksOf (summedPart t)) true) (heardAs (Error c04) false)) (heardAs (asksOf t) false) .summed)) ≤ 3 * (length t + 1)
     bySum true true e =
-        let l = leb-true 3 (length t) (and-both (leb 3 (length t)) (eqb (getD t (length t - 3) 0) 36) e .0) in
+        let l = leb-true 3 (length t) (and-eq-true-iff (leb 3 (length t)) (eqb (getD t (length t - 3) 0) 36) .0 e .0) in
         omega (arith, body-short m s z (summedPart t), summed-longer m s (asksOf (summedPart t)), length-take (length t - 3) t)
     bySum true false e =
-        let l = leb-true 3 (length t) (and-both (leb 3 (length t)) (eqb (getD t (length t - 3) 0) 36) e .0) in
+        let l = leb-true 3 (length t) (and-eq-true-iff (leb 3 (length t)) (eqb (getD t (length t - 3) 0) 36) .0 e .0) in
         said-short m s z (Error c04) (length t) (λ q. absurd (false≢true q)) (omega arith)
     bySum false r e = body-short m s z t

@@ -8,7 +8,7 @@ use Rattle.base.specs.Choice.{bit}
 use Rattle.base.specs.Lists.{eachTo}
 use Rattle.base.specs.Put.{Put}
 use Rattle.wire.specs.declared.Setup.{Setup}
-use Rattle.wire.specs.Wire.{Wire, Sent, Class, fitted, byte, byClass, other}
+use Rattle.wire.specs.Wire.{Wire, Sent, Class, fitted, byClass, other}
 use Rattle.wire.specs.Rack.{replies, moved}
 use Rattle.wire.specs.Rack as wire
 use Rattle.supply.specs.declared.Supply.{Supply}

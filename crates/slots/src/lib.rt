@@ -33,13 +33,6 @@ pub struct Ended {
     pub order: Order,
 }
 
-// A supply of the code has its figures within their widths; this says so of one.
-pub fn measured(s: Supply) -> Supply
-    ensures { λ r. ⌜ (r ≡ s) × Sized s ⌝ }
-{
-    s
-}
-
 // A line for at most one supply, ended. An order has to stand there; nobody looks at it.
 fn one_ended(selected: u8, supply: Supply, next: usize) -> Ended
     ensures { λ e. ⌜ e ≡ record { selected = selected; supply = supply; next = next; all = false; order = Cls } ⌝ }

@@ -2,7 +2,7 @@
 -- the reads that may be made and the bytes that are left grow fewer.
 use Prim.Native.Nat.{ℕ, _+_, _-_, _*_, _≤_, _<_}
 use mathlib.Core.Path.{_≡_, refl, sym, ap, _∙_}
-use mathlib.Core.Bool.{Bool, true, false, _&&_, _||_}
+use mathlib.Core.Bool.{Bool, true, false, _&&_, _||_, and-eq-true-iff}
 use mathlib.Core.List.{List, [], _++_, map, append-nil}
 use native.Mathlib.Omega.{arith}
 use lib.Dec.{eqb, ltb}
@@ -10,7 +10,6 @@ use lib.ListN.{length, take, drop, take-append-drop, length-drop}
 use lib.Seq.{drop-drop, length-take-le}
 use borrow.Author.Tests.{eqb-true, eqb-false, eq-eqb, ne-eqb, ltb-true}
 use Rattle.base.specs.Choice.{bit}
-use Rattle.base.proofs.Choice.{and-both}
 use Rattle.buffers.specs.Printed.{printed}
 use Rattle.wire.specs.Rack as wire
 use Rattle.supply.specs.declared.Supply.{Supply}
@@ -81,9 +80,9 @@ past n k = record { from = n .from + k; end = n .end; brought = n .brought; fail
 
 goes-by : (sent : Bool) (code : ℕ) (n : Block) → goesOn sent code (mendable code) n ≡ true → (code ≡ 0 → ⊥) → Waits code × (0 < n .reads)
 goes-by sent code n t z =
-    let either = and-both sent _ t .1 in
-    let both = and-both ((eqb code 2 || eqb code 5) && n .brought) (ltb 0 (n .reads)) (rw (ne-eqb code 0 z) at either) in
-    (waits-is code (and-both (eqb code 2 || eqb code 5) (n .brought) (both .0) .0), ltb-true 0 (n .reads) (both .1))
+    let either = and-eq-true-iff sent _ .0 t .1 in
+    let both = and-eq-true-iff ((eqb code 2 || eqb code 5) && n .brought) (ltb 0 (n .reads)) .0 (rw (ne-eqb code 0 z) at either) in
+    (waits-is code (and-eq-true-iff (eqb code 2 || eqb code 5) (n .brought) .0 (both .0) .0), ltb-true 0 (n .reads) (both .1))
 
 -- the loop ends: a read makes the reads fewer, and a turn behind one that was not refused makes the bytes fewer
 abbrev pub weight : Block → ℕ → ℕ
@@ -150,5 +149,5 @@ module _ {v q : wire.Rack Supply} {room room′ : List ℕ} {b n : Block} {code 
               handed = g .handed ++ map (printed 10) said;
               turns = rw (left, y .is) (turn-on (g .read) (unworked room b) (g .handed) q code (g .turns) (y .new) stop p k said after (e ∙ ap (fieldsOn stop q) (y .is)));
             };
-        sends = λ t. and-both sent _ t .0;
+        sends = λ t. and-eq-true-iff sent _ .0 t .0;
       }

@@ -53,7 +53,3 @@ module _ (M : Plain) where
   deliver-size : (u : Setup) (ss : List State) (ds : List Delivery) → length (foldl (deliver M u) ss ds) ≡ length ss
   deliver-size u ss [] = refl
   deliver-size u ss (d ∷ ds) = deliver-size u (deliver M u ss d) ds ∙ length-tabulate (length ss) (next M u (stateAt M ss) d)
-
-  -- and so does the number of slots
-  pub run-size : (r : Rack State) (calls : List Call) → length (runFrom M r calls .slots) ≡ length (r .slots)
-  run-size r calls = ap (λ (q : Rack State). length (q .slots)) (run-moved r calls) ∙ deliver-size (r .setup) (r .slots) (scan grammar (r .setup) (r .wire) (stream grammar (r .setup) calls) .sent)

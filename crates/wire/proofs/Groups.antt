@@ -7,13 +7,13 @@ use lib.ListN.{length}
 use borrow.Author.Tests.{ne-eqb}
 use Rattle.base.specs.Choice.{pick}
 use Rattle.base.proofs.Lists.{length-tabulate, getD-tabulate, tabulate-same}
-use Rattle.wire.specs.Machine.{keep, Tripped}
+use Rattle.wire.specs.Machine.{keep}
 use Rattle.wire.specs.Wire.{Delivery, one, all, say, modelAt, fitted, Call, freshWire, scan}
 use Rattle.wire.specs.Share.{stream, brought, jointShare}
 use Rattle.wire.specs.Rack.{Plain, next, stateAt, deliver, freshRack, run, slot, together}
 use Rattle.wire.specs.Groups.{touching, Closed, GroupEnds, GroupAlike}
 use Rattle.wire.specs.declared.Setup.{Setup}
-use Rattle.wire.proofs.Machine.{holds-throughout, tripped-off, project}
+use Rattle.wire.proofs.Machine.{project}
 use Rattle.wire.proofs.Stream.{brings, sent-brought}
 use Rattle.wire.proofs.Calls.{fitted-below, run-moved}
 
@@ -72,24 +72,3 @@ module _ (M : Plain) where
 
     pub group-alike : (u v : Setup) → Closed M u v g touches → Closed M v v g touches → (calls₁ calls₂ : List Call) → GroupAlike M g touches u v calls₁ calls₂
     group-alike u v C D calls₁ calls₂ = record { alike = λ e a i. group-in u v calls₁ C a i ∙ rw e (sym (group-in v v calls₂ D a i)) }
-
-    module _ (u : Setup) (C : Closed M u u g touches) (a : ℕ) (i : g a ≡ true) where
-      -- what every delivery keeps at a slot of the group holds there after every list
-      pub group-invariant :
-          (I : State → Type 0)
-          → I (fresh (modelAt u a))
-          → ((f : ℕ → State) (d : Delivery) → I (f a) → I (next M u f d a))
-          → (calls : List Call) → I (slot M (run M u calls) a)
-      group-invariant I s k calls = rw (group-in u u calls C a i) (holds-throughout (next M u) (λ f. I (f a)) k (λ b. fresh (modelAt u b)) (jointShare grammar u calls touches) s)
-
-      -- a slot of the group is off from a trip to its release, both judged in the states of the whole group
-      pub group-off :
-          (isSet isOn : State → Bool) (releases : (ℕ → State) → Delivery → Bool)
-          → ((s : State) → isSet s ≡ true → isOn s ≡ false)
-          → ((f : ℕ → State) (d : Delivery) → isSet (f a) ≡ true → releases f d ≡ false → isSet (next M u f d a) ≡ true)
-          → (calls : List Call)
-          → Tripped (next M u) (λ b. fresh (modelAt u b)) (λ f. isSet (f a)) releases (jointShare grammar u calls touches)
-          → isOn (slot M (run M u calls) a) ≡ false
-      group-off isSet isOn releases shut held calls t =
-          rw (group-in u u calls C a i)
-          (tripped-off (next M u) (λ f. isSet (f a)) releases held (λ f. isOn (f a)) (λ f q. shut (f a) q) (λ b. fresh (modelAt u b)) (jointShare grammar u calls touches) t)

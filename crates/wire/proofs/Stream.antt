@@ -8,7 +8,7 @@ use lib.ListN.{length}
 use borrow.Author.Tests.{eqb-true}
 use Rattle.base.specs.Choice.{pick}
 use Rattle.wire.specs.Machine.{given, keep, flat}
-use Rattle.wire.specs.Wire.{Entry, line, Delivery, one, all, say, Class, select, faulty, global, other, Grammar, fitted, Wire, Sent, quiet, followed, Item, byte, event, Call, nobody, freshWire, parse, byClass, charOn, byteOn, itemOn, scan}
+use Rattle.wire.specs.Wire.{Entry, line, Delivery, one, all, say, Class, select, faulty, global, other, Grammar, fitted, Wire, quiet, followed, Item, byte, event, Call, nobody, freshWire, parse, byClass, charOn, byteOn, itemOn, scan}
 use Rattle.wire.specs.Share.{items, stream, Typed, typing, typed, pieces, selected, handed, routes, brought, forSlot, shareOf}
 use Rattle.wire.specs.declared.Setup.{Setup}
 use Rattle.wire.proofs.Machine.{keep-append, flat-append}

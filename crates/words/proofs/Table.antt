@@ -2,7 +2,7 @@
 use Prim.Native.Nat.{ℕ, zero, suc, _+_, _-_, _*_, _^_, _<_, _≤_}
 use mathlib.Core.Path.{_≡_, refl, sym, ap, _∙_}
 use mathlib.Core.List.{List, [], _∷_, map}
-use mathlib.Core.Bool.{Bool, true, false, not, _&&_, false≢true}
+use mathlib.Core.Bool.{Bool, true, false, not, _&&_, false≢true, and-eq-true-iff}
 use mathlib.Core.Logic.{⊎-elim}
 use native.Mathlib.Nat.{pow-suc, eq-or-lt-of-le, le-of-suc-le-suc, lt-of-lt-of-le, mul-le-mul-left, pow-le-pow-right}
 use native.Mathlib.Omega.{arith}
@@ -12,7 +12,7 @@ use lib.ListN.{length, getD, length-map, List·getD-map}
 use lib.Seq.{ext-getD}
 use borrow.Author.Tests.{ne-eqb, eq-eqb, eqb-true, ltb-true, leb-true, not-true}
 use Rattle.base.specs.Choice.{pick}
-use Rattle.base.proofs.Choice.{or-false, and-both}
+use Rattle.base.proofs.Choice.{neither}
 use Rattle.words.specs.Words.{upper, upperAll, packed, pack, wordNumber, sameWord, isOneOf, Row, findWord, findNumber}
 
 -- every element is a byte
@@ -51,7 +51,7 @@ same-eq [] [] e = refl
 same-eq [] (y ∷ t) e = absurd (false≢true e)
 same-eq (x ∷ s) [] e = absurd (false≢true e)
 same-eq (x ∷ s) (y ∷ t) e =
-    let p = and-both (eqb x y) (sameWord s t) e in
+    let p = and-eq-true-iff (eqb x y) (sameWord s t) .0 e in
     let q : x ≡ y = eqb-true x y (p .0) in
     let r : s ≡ t = same-eq s t (p .1) in
     cc
@@ -66,8 +66,8 @@ key-same s t hs ht = byTest (sameWord s t) refl
 
 bytes-of : (s : List ℕ) → areBytes s ≡ true → Bytes s
 bytes-of [] e i = lit< tt
-bytes-of (x ∷ s) e zero = ltb-true x 256 (and-both (ltb x 256) (areBytes s) e .0)
-bytes-of (x ∷ s) e (suc i) = bytes-of s (and-both (ltb x 256) (areBytes s) e .1) i
+bytes-of (x ∷ s) e zero = ltb-true x 256 (and-eq-true-iff (ltb x 256) (areBytes s) .0 e .0)
+bytes-of (x ∷ s) e (suc i) = bytes-of s (and-eq-true-iff (ltb x 256) (areBytes s) .0 e .1) i
 
 upper-lt : (b : ℕ) → b < 256 → upper b < 256
 upper-lt b h = byTest (leb 97 b && leb b 122)
@@ -116,8 +116,8 @@ module _ {A : Type 0} (none : A) where
   unfolding findNumber findWord
   find-same [] f w h = refl
   find-same (e ∷ t) f w h =
-      let p = and-both (areBytes (e .0)) (leb (length (e .0)) 5 && fitTable t) f in
-      let q = and-both (leb (length (e .0)) 5) (fitTable t) (p .1) in
+      let p = and-eq-true-iff (areBytes (e .0)) (leb (length (e .0)) 5 && fitTable t) .0 f in
+      let q = and-eq-true-iff (leb (length (e .0)) 5) (fitTable t) .0 (p .1) in
       rw (key-same (e .0) w (bytes-of (e .0) (p .0)) h, find-same t (q .1) w h) refl
 
   -- a longer word is not there
@@ -125,8 +125,8 @@ module _ {A : Type 0} (none : A) where
   unfolding findWord
   find-long [] f w h = refl
   find-long (e ∷ t) f w h =
-      let p = and-both (areBytes (e .0)) (leb (length (e .0)) 5 && fitTable t) f in
-      let q = and-both (leb (length (e .0)) 5) (fitTable t) (p .1) in
+      let p = and-eq-true-iff (areBytes (e .0)) (leb (length (e .0)) 5 && fitTable t) .0 f in
+      let q = and-eq-true-iff (leb (length (e .0)) 5) (fitTable t) .0 (p .1) in
       byTest (sameWord (e .0) w) refl (leb-true (length (e .0)) 5 (q .0)) (find-long t (q .1) w h)
     where
       byTest : (b : Bool) → sameWord (e .0) w ≡ b → length (e .0) ≤ 5 → findWord none t w ≡ none → pick b (e .1) (findWord none t w) ≡ none
@@ -145,7 +145,7 @@ module _ {A : Type 0} (none : A) where
   unfolding findWord
   find-passes f [] h w p = p
   find-passes f (e ∷ t) h w p =
-      let q = and-both (f (length (e .0)) (e .1)) (everyRow f t) h in
+      let q = and-eq-true-iff (f (length (e .0)) (e .1)) (everyRow f t) .0 h in
       byTest (sameWord (e .0) w) refl (q .0) (find-passes f t (q .1) w p)
     where
       byTest :
@@ -167,7 +167,7 @@ module _ {A : Type 0} (none : A) where
   where-none : (f : A → Bool) (t : List (Row A)) (w : List ℕ) → isOneOf (map (λ (r : Row A). r .0) t) w ≡ false → isOneOf (wordsWhere f t) w ≡ false
   where-none f [] w h = refl
   where-none f (e ∷ t) w h =
-      let q = or-false (sameWord (e .0) w) (isOneOf (map (λ (r : Row A). r .0) t) w) h in
+      let q = neither (sameWord (e .0) w) (isOneOf (map (λ (r : Row A). r .0) t) w) h in
       byTest (f (e .1)) (q .0) (where-none f t w (q .1))
     where
       byTest :
@@ -183,7 +183,7 @@ module _ {A : Type 0} (none : A) where
   unfolding findWord
   find-where f n [] h w = n
   find-where f n (e ∷ t) h w =
-      let q = and-both (not (isOneOf (map (λ (r : Row A). r .0) t) (e .0))) (wordsOnce t) h in
+      let q = and-eq-true-iff (not (isOneOf (map (λ (r : Row A). r .0) t) (e .0))) (wordsOnce t) .0 h in
       byTest (sameWord (e .0) w) (f (e .1)) refl refl (not-true (isOneOf (map (λ (r : Row A). r .0) t) (e .0)) (q .0)) (find-where f n t (q .1) w)
     where
       byTest :

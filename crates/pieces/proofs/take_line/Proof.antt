@@ -4,6 +4,7 @@ use native.Mathlib.Omega.{arith}
 use lib.ListN.{length}
 use denote.Ref.{now}
 use Rattle.serial.specs.View.{lineOf}
+use Rattle.slots.proofs.Fairness.{sized}
 use Rattle.pieces.proofs.Pieces.{feed-within, no-line, one-line}
 use borrow.Author.Needs.{needs}
 use Rattle.pieces.proofs.take_line.Statement.{statement}
@@ -15,10 +16,6 @@ use Rattle.pieces.proofs.past_feed.Reads as past-feed-reads
 use Rattle.pieces.proofs.silent.Reads as silent-reads
 use Rattle.pieces.proofs.take_chars.Reads as take-chars-reads
 use Rattle.slots.proofs.end_one.Reads as end-one-reads
-use Rattle.slots.proofs.measured.Reads as measured-reads
-
-measured-requires : tie.Need-measured-requires
-measured-requires c κs = search needs
 
 take-chars-requires : tie.Need-take-chars-requires
 take-chars-requires c κs = search needs
@@ -31,14 +28,14 @@ silent-requires c κs = search needs
 
 returns : tie.Need-returns
 returns c =
-    let z = c .before .before .before .before .before .before .before .args in
+    let z = c .before .before .before .before .before .before .args in
     let t = c .before .before .take-chars in
     rw (c .silent .ensures) (t .ensures .same, no-line (z .u) (lineOf (now (z .kept)) (z .count) (z .spoiled) (z .selected)) (z .s) (now (z .p)) (z .head) (now (z .buf)) (z .at) (t .result .next) _ (t .ensures .chars (z .selected)) (c .before .if1 .taken))
 
 add-past-feed : tie.Need-add-past-feed
 add-past-feed c =
     let t = c .before .take-chars in
-    let m : t .result .next + 1 ≤ length (c .before .before .before .before .before .before .args .p .now) = omega (arith, t .ensures .chars 0 .within, c .if1 .left) in
+    let m : t .result .next + 1 ≤ length (c .before .before .before .before .before .args .p .now) = omega (arith, t .ensures .chars 0 .within, c .if1 .left) in
     search needs
 
 past-feed-requires : tie.Need-past-feed-requires
@@ -47,15 +44,15 @@ past-feed-requires c κs = search needs
 add-used : tie.Need-add-used
 add-used c =
     let t = c .before .before .take-chars in
-    let m : t .result .next + 1 ≤ length (c .before .before .before .before .before .before .before .args .p .now) = omega (arith, t .ensures .chars 0 .within, c .before .if1 .left) in
-    let high : c .past-feed .result ≤ length (c .before .before .before .before .before .before .before .args .p .now) = feed-within (c .before .before .before .before .before .before .before .args .p .now) (t .result .next + 1) (c .past-feed .result) (c .past-feed .ensures) m .1 in
+    let m : t .result .next + 1 ≤ length (c .before .before .before .before .before .before .args .p .now) = omega (arith, t .ensures .chars 0 .within, c .before .if1 .left) in
+    let high : c .past-feed .result ≤ length (c .before .before .before .before .before .before .args .p .now) = feed-within (c .before .before .before .before .before .before .args .p .now) (t .result .next + 1) (c .past-feed .result) (c .past-feed .ensures) m .1 in
     search needs
 
 sub-left : tie.Need-sub-left
 sub-left c =
     let t = c .before .before .take-chars in
-    let m : t .result .next + 1 ≤ length (c .before .before .before .before .before .before .before .args .p .now) = omega (arith, t .ensures .chars 0 .within, c .before .if1 .left) in
-    let high : c .past-feed .result ≤ length (c .before .before .before .before .before .before .before .args .p .now) = feed-within (c .before .before .before .before .before .before .before .args .p .now) (t .result .next + 1) (c .past-feed .result) (c .past-feed .ensures) m .1 in
+    let m : t .result .next + 1 ≤ length (c .before .before .before .before .before .before .args .p .now) = omega (arith, t .ensures .chars 0 .within, c .before .if1 .left) in
+    let high : c .past-feed .result ≤ length (c .before .before .before .before .before .before .args .p .now) = feed-within (c .before .before .before .before .before .before .args .p .now) (t .result .next + 1) (c .past-feed .result) (c .past-feed .ensures) m .1 in
     search needs
 
 end-one-requires : tie.Need-end-one-requires
@@ -69,16 +66,19 @@ same-length c = search needs
 
 returns-2 : tie.Need-returns-2
 returns-2 c =
-    let z = c .before .before .before .before .before .before .before .before .before .before .before .before .before .args in
+    let start = c .before .before .before .before .before .before .before .before .before .before .before .before in
+    let z = start .args in
+    let settings = start .good .1 .1 .1 .1 .1 .0 in
+    let counts = settings .1 .1 .1 .1 .1 .1 .1 .1 .1 .1 .1 .1 .1 in
     let t = c .before .before .before .before .before .before .before .before .take-chars in
     let m = lineOf (now (z .kept)) (z .count) (z .spoiled) (z .selected) in
-    rw (c .line-ended .ensures) (t .ensures .same, one-line (z .u) m (z .s) (now (z .p)) (z .head) (now (z .buf)) (z .at) (t .result .next) _ (t .ensures .chars (z .selected)) (c .before .before .before .before .before .before .before .if1 .left) (c .before .before .before .end-one .result) _ (c .before .before .before .before .before .before .before .before .before .before .measured .ensures .1) (rw (c .before .before .before .before .before .before .before .before .before .before .measured .ensures .0) at (c .before .before .before .end-one .ensures)) _ (c .before .before .before .before .before .before .past-feed .ensures))
+    let size = sized (z .s) (search needs) (search needs) (search needs) (search needs) (search needs) (search needs) in
+    rw (c .line-ended .ensures) (t .ensures .same, one-line (z .u) m (z .s) (now (z .p)) (z .head) (now (z .buf)) (z .at) (t .result .next) _ (t .ensures .chars (z .selected)) (c .before .before .before .before .before .before .before .if1 .left) (c .before .before .before .end-one .result) _ size (c .before .before .before .end-one .ensures) _ (c .before .before .before .before .before .before .past-feed .ensures))
 
 pub take-line-spec : {M : Type 1} → statement M
 take-line-spec =
     tie.close
     (tie.spec
-    measured-requires
     take-chars-requires
     add-silent
     silent-requires
