@@ -1,10 +1,10 @@
--- FEVE after an act, bit by bit: the first stage moves it only to clear it, and what comes behind the first stage leaves FLT alone.
+-- FEVE after an act, bit by bit: the first stage moves it only to clear it, and what comes after that leaves FLT alone.
 use Prim.Native.Nat.{ℕ, _<_}
 use mathlib.Core.Path.{_≡_, refl, sym, ap, _∙_}
 use mathlib.Core.Bool.{Bool, true, false, not, _&&_, _||_, true≢false}
 use mathlib.Core.Logic.{⊎-elim}
 use lib.Dec.{eqb}
-use borrow.Author.Tests.{eq-eqb, eqb-true}
+use borrow.Author.Tests.{eq-eqb, eqb-true, eqb-false}
 use Rattle.base.specs.Choice.{pick}
 use Rattle.base.specs.Bits.{bitAt}
 use Rattle.base.proofs.Choice.{pick-true, pick-false, pick-keeps}
@@ -62,9 +62,13 @@ module _ (s : Supply) where
   unfolding pressed turnedOn
   key-same Output =
       S (eqb (s .mode) 0) (pick (onOf s) (withWant false s) (pick (linesClear s) (turnedOn s) s)) s
-      (S (onOf s) (withWant false s) (pick (linesClear s) (turnedOn s) s) refl (S (linesClear s) (turnedOn s) s refl refl))
+      (S (onOf s) (withWant false s) (pick (linesClear s) (turnedOn s) s) refl
+      (S (linesClear s) (turnedOn s) s refl refl))
       refl
-  key-same Fold = S (eqb (s .mode) 0) (pick (s .armed) (disarmed s) (withArmed true s)) s (S (s .armed) (disarmed s) (withArmed true s) disarm-same refl) refl
+  key-same Fold =
+      S (eqb (s .mode) 0) (pick (s .armed) (disarmed s) (withArmed true s)) s
+      (S (s .armed) (disarmed s) (withArmed true s) disarm-same refl)
+      refl
   key-same Local = S (eqb (s .mode) 1) (withMode 0 s) s refl refl
 
   setting-same : (t : Target) (x : ℕ) → Same (withSetting t x s)
@@ -76,7 +80,9 @@ module _ (s : Supply) where
 
   knob-same : (m : ℕ) (t : Target) (raw : ℕ) → Same (turned m s t raw)
   unfolding turned
-  knob-same m t raw = S (eqb (s .mode) 0) (withSetting t (stepped (limitsOf m) s t raw) s) s (setting-same t (stepped (limitsOf m) s t raw)) refl
+  knob-same m t raw =
+      let x : ℕ = stepped (limitsOf m) s t raw in
+      S (eqb (s .mode) 0) (withSetting t x s) s (setting-same t x) refl
 
   set-same : (t : Target) (x : ℕ) → Same (remoteBy t (withSetting t x s))
   unfolding remoteBy remote withSetting
@@ -136,7 +142,8 @@ module _ (m : ℕ) (s : Supply) where
   unclosed a e c = accepted a e ∙ pick-false _ _ _ (closing a c)
 
   flt-after : (a : Act) → codeOf m s a ≡ 0 → fltOf (performed m s a) ≡ fltOf (acted m s a)
-  flt-after a e = ap fltOf (accepted a e) ∙ cleared-flt (clearingAct a) (settled s (acted m s a)) ∙ settled-flt s (acted m s a)
+  flt-after a e =
+      ap fltOf (accepted a e) ∙ cleared-flt (clearingAct a) (settled s (acted m s a)) ∙ settled-flt s (acted m s a)
 
   -- what FEVE gains, FLT being taken where the act has done what it does
   abbrev risen : Act → ℕ → Bool
@@ -158,7 +165,7 @@ module _ (m : ℕ) (s : Supply) where
           let ok : codeOf m s a ≡ 0 = eqb-true (codeOf m s a) 0 e in
           let still : (k : ℕ) → k < 8 → risen a k ≡ false = λ k h. rw (flt-after a ok) at (idle k h) in
           ap (λ (x : Supply). x .feve) (unclosed a ok c ∙ settled-none s (acted m s a) still) ∙ acted-same s m a c
-      byCode false e = ap (λ (x : Supply). x .feve) (unmoved m s a (λ z. true≢false (sym (eq-eqb (codeOf m s a) 0 z) ∙ e)))
+      byCode false e = ap (λ (x : Supply). x .feve) (unmoved m s a (eqb-false (codeOf m s a) 0 e))
 
   -- FEVE BIT BY BIT, after every act on every supply
   pub feve-gain : (a : Act) → FeveGain m s a

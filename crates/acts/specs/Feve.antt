@@ -1,4 +1,4 @@
--- WHAT AN EVENT LEAVES IN FEVE, bit by bit. The event is a whole act, and FLT after it that of the supply that the act leaves.
+-- WHAT AN EVENT LEAVES IN FEVE, bit by bit. The event is a whole act, and FLT after it is that of the supply it leaves.
 use Prim.Native.Nat.{ℕ, _<_}
 use mathlib.Core.Path.{_≡_}
 use mathlib.Core.Logic.{_⊎_}

@@ -57,13 +57,15 @@ gain-bit : (before after : Supply) (k : ℕ) → k < 8 → bitAt k (gain before 
 gain-bit before after k h =
     bit-and k (bitAnd (fltOf after) (255 - fltOf before)) (before .fena)
     ∙ ap (λ (x : Bool). x && bitAt k (before .fena))
-    (bit-and k (fltOf after) (255 - fltOf before) ∙ ap (λ (x : Bool). bitAt k (fltOf after) && x) (bit-not k (fltOf before) h (flt-lt before)))
+    (bit-and k (fltOf after) (255 - fltOf before)
+    ∙ ap (λ (x : Bool). bitAt k (fltOf after) && x) (bit-not k (fltOf before) h (flt-lt before)))
 
 -- FEVE BIT BY BIT
 pub feve-bit : (before after : Supply) (k : ℕ) → k < 8 → FeveBit before after k
 unfolding settled
 feve-bit before after k h =
-    bit-or k (after .feve) (gain before after) ∙ ap (λ (x : Bool). bitAt k (after .feve) || x) (gain-bit before after k h)
+    bit-or k (after .feve) (gain before after)
+    ∙ ap (λ (x : Bool). bitAt k (after .feve) || x) (gain-bit before after k h)
 
 -- a bit that is not set
 even : (x : ℕ) → eqb (x % 2) 1 ≡ false → x % 2 ≡ 0
@@ -88,16 +90,21 @@ no-bit x l off =
     omega (arith, even (x / 1) (off 0 (lit< tt)))
 
 -- an event in which no enabled bit rises gains nothing
-pub settled-none : (before after : Supply) → ((k : ℕ) → k < 8 → rises before after k ≡ false) → settled before after ≡ after
+pub settled-none : (before after : Supply) → ((k : ℕ) → k < 8 → rises before after k ≡ false)
+    → settled before after ≡ after
 unfolding settled
 settled-none before after none =
-    let small : gain before after < 256 = lt-of-le-of-lt (and-le-l (bitAnd (fltOf after) (255 - fltOf before)) (before .fena)) (lt-of-le-of-lt (and-le-l (fltOf after) (255 - fltOf before)) (flt-lt after)) in
+    let risen : ℕ = bitAnd (fltOf after) (255 - fltOf before) in
+    let small : gain before after < 256 =
+    lt-of-le-of-lt (and-le-l risen (before .fena))
+    (lt-of-le-of-lt (and-le-l (fltOf after) (255 - fltOf before)) (flt-lt after)) in
     let zero : gain before after ≡ 0 = no-bit (gain before after) small (λ k h. gain-bit before after k h ∙ none k h) in
     rw (zero, or-zero-r (after .feve)) refl
 
 -- nor does one that leaves FLT as it was
 pub settled-idle : (before after : Supply) → fltOf after ≡ fltOf before → settled before after ≡ after
-settled-idle before after e = settled-none before after (λ k h. rw e (unmoved (bitAt k (fltOf before)) (bitAt k (before .fena))))
+settled-idle before after e =
+    settled-none before after (λ k h. rw e (unmoved (bitAt k (fltOf before)) (bitAt k (before .fena))))
   where
     unmoved : (x y : Bool) → ((x && not x) && y) ≡ false
     unmoved true y = refl
