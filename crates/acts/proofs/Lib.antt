@@ -1,5 +1,6 @@
 pub mod Idle
 pub mod Feve
 pub mod Keeps
+pub mod Coherent
 pub mod Trips
 pub mod Clearing

@@ -1,3 +1,4 @@
 pub mod Acts
+pub mod Coherent
 pub mod Feve
 pub mod Releases

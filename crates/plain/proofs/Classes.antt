@@ -23,8 +23,8 @@ use Rattle.parameters.specs.Parameters.{bare, address, c01, c02, c03, c04, isEm
 use Rattle.asks.specs.Words.{OrderWord, set, ovm, out, fld, ast, rmt, fena, cls, rst, kindOfOrder}
 use Rattle.asks.specs.Words.{Command, toOne, ofOne, toAll, selecting, unknownWord, kindOf, asksWith, failsWith}
 use Rattle.asks.specs.Words.{commands, commandOf, askedBy}
-use Rattle.asks.specs.Asked.{wordOf, parameterText, asksOf}
-use Rattle.command.specs.Lines.{hasSum, rightSum, summedPart, heardAs, heardOf}
+use Rattle.asks.specs.Asked.{wordOf}
+use Rattle.command.specs.Lines.{hasSum, rightSum, heardOf}
 use Rattle.texts.specs.Texts.{codeText, replyOf}
 use Rattle.protocol.specs.Sent.{repliedTo}
 use Rattle.protocol.specs.Verdicts.{Stage, firstOf, bodyOf, wordIn, commandIn, givenIn, isUnknown, isAbsent, isMalformed, isBeyond}
@@ -32,6 +32,7 @@ use Rattle.protocol.specs.Verdicts.{isWronglySummed, drawsSum, valueOf}
 use Rattle.protocol.proofs.Verdicts.{verdicts, summed-when}
 use Rattle.plain.specs.Plain.{classBy, classOf}
 use Rattle.plain.specs.Classes.{adrWord, globalWords, classFor, Classes}
+use Rattle.plain.proofs.Heard.{heard-has}
 
 -- the bytes of a class, and what tells the classes apart
 abbrev bytesOf : Class → List ℕ
@@ -91,19 +92,8 @@ word-inside selecting x =
     (inside-30 (needed (readAs address x) x)) tt
 word-inside unknownWord x = tt
 
-asks-inside : (u : List ℕ) → selectsInside (asksOf u)
-unfolding asksOf
-asks-inside u = pick-keeps selectsInside (isEmpty u) (One Nothing) (askedBy (commandOf (upperAll (wordOf u))) (parameterText u)) tt (word-inside (commandOf (upperAll (wordOf u))) (parameterText u))
-
 heard-inside : (kept : List ℕ) (spoiled : Bool) → selectsInside (heardOf kept spoiled .asks)
-unfolding heardOf
-heard-inside kept true = tt
-heard-inside kept false = bySum (hasSum kept) (rightSum kept)
-  where
-    bySum : (h r : Bool) → selectsInside (pick h (pick r (heardAs (asksOf (summedPart kept)) true) (heardAs (Error c04) false)) (heardAs (asksOf kept) false) .asks)
-    bySum true true = asks-inside (summedPart kept)
-    bySum true false = tt
-    bySum false r = asks-inside kept
+heard-inside = heard-has selectsInside tt (λ c. tt) word-inside
 
 class-inside : (a : Asks) (t : Bool) → selectsInside a → addressOf (classBy a t) ≤ 30
 class-inside (Select n) t h = h

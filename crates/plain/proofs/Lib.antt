@@ -1,4 +1,6 @@
 pub mod Isolation
+pub mod Heard
 pub mod Classes
 pub mod Unaddressed
 pub mod Shares
+pub mod Reached

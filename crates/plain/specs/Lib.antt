@@ -2,3 +2,4 @@ pub mod Plain
 pub mod Classes
 pub mod Unaddressed
 pub mod Shares
+pub mod Reached

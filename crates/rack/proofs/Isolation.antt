@@ -9,9 +9,11 @@ use Rattle.wire.specs.Rack.{callOf, after, runFrom, run, slot, plain}
 use Rattle.wire.specs.Rack as wire
 use Rattle.wire.specs.declared.Setup.{Setup}
 use Rattle.supply.specs.declared.Supply.{Supply}
+use Rattle.acts.specs.Coherent.{Coherent}
 use Rattle.plain.specs.Plain.{plainSupply, grammar}
 use Rattle.plain.proofs.Isolation.{isolated}
 use Rattle.plain.proofs.Unaddressed.{addresses-unread}
+use Rattle.plain.proofs.Reached.{shares-coherent}
 use Rattle.slots.specs.declared.Rack.{Rack}
 use Rattle.calls.specs.declared.Answer.{Answer}
 use Rattle.slots.specs.View.{viewOf, Able}
@@ -66,6 +68,8 @@ isolated-code u calls a f =
           ∙ sym (ends-as u₂ calls₂ r₂ b (rw m at f) g₂);
       margins = λ past rest r e g. let w = rw (slot-is u past r a g) at (d .invariant past rest e) in (w .uvl-margin, w .ovp-margin);
       limits = λ past rest r e g. rw (slot-is u past r a g) at (d .invariant past rest e);
+      coherent = λ past rest r e g.
+          subst Coherent (sym (ends-as u past r a f g)) (shares-coherent .coherent (modelAt u a) u past a);
       calls-off = λ k past rest r e g t. rw (slot-is u past r a g) at (d .calls-off k past rest e t);
       entries-off = d .entries-off;
       freed = d .freed;

@@ -13,6 +13,7 @@ use Rattle.supply.specs.declared.Supply.{Supply}
 use Rattle.supply.specs.State.{fresh}
 use Rattle.supply.specs.Flt.{onOf}
 use Rattle.settings.specs.Lawful.{Lawful}
+use Rattle.acts.specs.Coherent.{Coherent}
 use Rattle.acts.specs.Releases.{Trip, isSet}
 use Rattle.plain.specs.Plain.{plainSupply, grammar, trips, stepOf, releasesOf}
 use Rattle.plain.specs.Unaddressed.{unaddressed}
@@ -75,6 +76,8 @@ pub record AtAddress (u : Setup) (calls : List Call) (a : ℕ) : Type 0 where
   pub margins : (past rest : List Call) (r : Rack) → calls ≡ past ++ rest → Run u past r
       → (20 * supplyAt r a .uvl ≤ 19 * supplyAt r a .pv) × (21 * supplyAt r a .pv ≤ 20 * supplyAt r a .ovp)
   pub limits : (past rest : List Call) (r : Rack) → calls ≡ past ++ rest → Run u past r → Lawful (modelAt u a) (supplyAt r a)
+  -- and so it is with the rest of the state: MODE at most 2, LINES of listed bits alone, no FOLD trip without ARMED
+  pub coherent : (past rest : List Call) (r : Rack) → calls ≡ past ++ rest → Run u past r → Coherent (supplyAt r a)
   -- the call that trips leaves the output off, and so does each one behind it, as long as none has brought a release of that trip
   pub calls-off : (k : Trip) (past rest : List Call) (r : Rack) → calls ≡ past ++ rest → Run u past r
       → TrippedBy plainSupply trips (modelAt u a) k (shareOf grammar u past a)

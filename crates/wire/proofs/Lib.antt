@@ -3,6 +3,7 @@ pub mod Stream
 pub mod Calls
 pub mod Groups
 pub mod Demand3
+pub mod Entries
 pub mod Lawful
 pub mod ForCode
 pub mod Example

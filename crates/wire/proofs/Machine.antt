@@ -8,7 +8,7 @@ use lib.ListN.{length, getD}
 use Rattle.base.specs.Choice.{pick}
 use Rattle.base.specs.Lists.{tabulate}
 use Rattle.base.proofs.Lists.{length-tabulate, getD-tabulate}
-use Rattle.wire.specs.Machine.{flat, keep, noRelease, Tripped}
+use Rattle.wire.specs.Machine.{flat, keep, Every, noRelease, Tripped}
 
 pub keep-append : {D : Type 0} (t : D → Bool) (xs ys : List D) → keep t (xs ++ ys) ≡ keep t xs ++ keep t ys
 keep-append t [] ys = refl
@@ -27,6 +27,12 @@ module _ {X E : Type 0} (act : X → E → X) where
   pub holds-throughout : (I : X → Type 0) → ((x : X) (e : E) → I x → I (act x e)) → (x : X) (es : List E) → I x → I (foldl act x es)
   holds-throughout I k x [] i = i
   holds-throughout I k x (e ∷ es) i = holds-throughout I k (act x e) es (k x e i)
+
+  -- and what every input with P keeps holds behind a list of such inputs
+  pub holds-along : (P : E → Type 0) (I : X → Type 0) → ((x : X) (e : E) → P e → I x → I (act x e))
+      → (x : X) (es : List E) → Every P es → I x → I (foldl act x es)
+  holds-along P I k x [] p i = i
+  holds-along P I k x (e ∷ es) p i = holds-along P I k (act x e) es (p .1) (k x e (p .0) i)
 
   module _ (flag : X → Bool) (rel : X → E → Bool) (held : (x : X) (e : E) → flag x ≡ true → rel x e ≡ false → flag (act x e) ≡ true) where
     stays-set : (x : X) (es : List E) → flag x ≡ true → noRelease act rel x es ≡ true → flag (foldl act x es) ≡ true

@@ -2,6 +2,7 @@ pub mod Machine
 pub mod Wire
 pub mod Share
 pub mod Rack
+pub mod Entries
 pub mod Laws
 pub mod Demand3
 pub mod Groups

@@ -18,6 +18,11 @@ abbrev pub flat : {D E : Type 0} → (D → List E) → List D → List E
 flat f [] = []
 flat f (d ∷ ds) = f d ++ flat f ds
 
+-- each input of the list has P
+abbrev pub Every : {D : Type 0} → (D → Type 0) → List D → Type 0
+Every P [] = Unit
+Every P (d ∷ ds) = P d × Every P ds
+
 -- no input of the list, in the state that it meets, is a release
 abbrev pub noRelease : {X E : Type 0} → (X → E → X) → (X → E → Bool) → X → List E → Bool
 noRelease act rel x [] = true

@@ -1,0 +1,170 @@
+-- The fresh supply is coherent, and each checked act leaves a coherent supply coherent.
+use Prim.Native.Nat.{ℕ, _≤_}
+use mathlib.Core.Path.{_≡_, refl}
+use mathlib.Core.Bool.{Bool, true, false, not, _&&_, _||_, false≢true}
+use native.Mathlib.Omega.{arith}
+use lib.Dec.{leb, eqb}
+use Rattle.base.specs.Choice.{pick}
+use Rattle.base.proofs.Choice.{pick-keeps, and-both}
+use Rattle.models.specs.Models.{limitsOf, voltReading}
+use Rattle.supply.specs.declared.Supply.{Supply}
+use Rattle.supply.specs.declared.Target.{Target}
+use Rattle.supply.specs.declared.Target.the-variants.{Pv, Pc, Ovp, Uvl}
+use Rattle.supply.specs.declared.Key.{Key}
+use Rattle.supply.specs.declared.Key.the-variants.{Output, Fold, Local}
+use Rattle.supply.specs.declared.Order.{Order}
+use Rattle.supply.specs.declared.Order.the-variants.{Set, Ovm, Out, Fld, Ast, Rmt, Fena, Cls, Rst}
+use Rattle.supply.specs.declared.Act.{Act}
+use Rattle.supply.specs.declared.Act.the-variants.{Lines, Sample, Press, Turn, Obey, Ask, Nothing}
+use Rattle.supply.specs.With.{withFeve, withWant, withArmed, withMode, withCounts}
+use Rattle.supply.specs.State.{fresh}
+use Rattle.supply.specs.Flt.{onOf, linesClear, inLimit, settled}
+use Rattle.settings.specs.Settings.{withSetting, stepped}
+use Rattle.samples.specs.Samples.{sampled}
+use Rattle.samples.proofs.Cases.{sample-law}
+use Rattle.events.specs.Events.{falls, linesChanged, turnedOn, disarmed, pressed, turned}
+use Rattle.events.proofs.Cases.{lines-law, disarm-law}
+use Rattle.orders.specs.Orders.{remote, remoteBy, outDone, fldDone, reset, ordered}
+use Rattle.acts.specs.Acts.{codeOf, clearingQuery, clearingAct, cleared, acted, closed, performed}
+use Rattle.acts.specs.Coherent.{Listed, Agreeing, Coherent, CheckedOrder, Checked}
+
+-- with no FOLD trip nothing is asked of ARMED
+untripped : {mode lines : ℕ} {armed : Bool} → mode ≤ 2 → Listed lines → Agreeing mode lines false armed
+untripped m l = record { mode-known = m; lines-listed = l; fold-armed = λ e. absurd (false≢true e) }
+
+-- another mode, known too
+moded : {mode lines : ℕ} {fold armed : Bool} (k : ℕ) → k ≤ 2
+    → Agreeing mode lines fold armed → Agreeing k lines fold armed
+moded k m h = record { mode-known = m; lines-listed = h .lines-listed; fold-armed = h .fold-armed }
+
+mode-picked : (t : Bool) (j k : ℕ) → j ≤ 2 → k ≤ 2 → pick t j k ≤ 2
+mode-picked = pick-keeps (λ (n : ℕ). n ≤ 2)
+
+-- where either of two tests means ARMED
+either : (x y armed : Bool) → (x ≡ true → armed ≡ true) → (y ≡ true → armed ≡ true) → (x || y) ≡ true → armed ≡ true
+either true y armed f g e = f refl
+either false y armed f g e = g e
+
+pub fresh-coherent : (m : ℕ) → Coherent (fresh m)
+unfolding fresh
+fresh-coherent m = untripped (omega arith) (λ l. refl)
+
+abbrev C : (t : Bool) (a b : Supply) → Coherent a → Coherent b → Coherent (pick t a b)
+C = pick-keeps Coherent
+
+module _ (s : Supply) (h : Coherent s) where
+  lines-coherent : (b : ℕ) → Listed b → Coherent (linesChanged s b)
+  lines-coherent b l =
+      let known : pick (eqb (s .mode) 2) 1 (s .mode) ≤ 2 = mode-picked (eqb (s .mode) 2) 1 (s .mode) (omega arith) (h .mode-known) in
+      rw (← lines-law s b)
+      (record {
+        mode-known = mode-picked (falls 1 (s .lines) b) _ (s .mode) known (h .mode-known);
+        lines-listed = l;
+        fold-armed = λ e. h .fold-armed (and-both (not (falls 1 (s .lines) b)) (s .«fold_trip») e .1);
+      })
+
+  sample-coherent : (m v a : ℕ) → Coherent (sampled m s v a)
+  sample-coherent m v a =
+      let judged : Bool = onOf s && not (leb (s .ovp) (voltReading m v)) in
+      let limited : Bool = inLimit m (withCounts v a s) in
+      rw (← sample-law m s v a)
+      (record {
+        mode-known = h .mode-known;
+        lines-listed = h .lines-listed;
+        fold-armed = either (judged && (s .armed && limited)) (s .«fold_trip») (s .armed)
+            (λ e. and-both (s .armed) limited (and-both judged (s .armed && limited) e .1) .0)
+            (h .fold-armed);
+      })
+
+  disarm-coherent : Coherent (disarmed s)
+  disarm-coherent = rw (← disarm-law s) (untripped (h .mode-known) (h .lines-listed))
+
+  armed-coherent : Coherent (withArmed true s)
+  armed-coherent = record { mode-known = h .mode-known; lines-listed = h .lines-listed; fold-armed = λ e. refl }
+
+  turned-on-coherent : Coherent (turnedOn s)
+  unfolding turnedOn
+  turned-on-coherent = untripped (h .mode-known) (h .lines-listed)
+
+  key-coherent : (k : Key) → Coherent (pressed s k)
+  unfolding pressed
+  key-coherent Output =
+      C (eqb (s .mode) 0) (pick (onOf s) (withWant false s) (pick (linesClear s) (turnedOn s) s)) s
+      (C (onOf s) (withWant false s) (pick (linesClear s) (turnedOn s) s) h
+      (C (linesClear s) (turnedOn s) s turned-on-coherent h))
+      h
+  key-coherent Fold =
+      C (eqb (s .mode) 0) (pick (s .armed) (disarmed s) (withArmed true s)) s
+      (C (s .armed) (disarmed s) (withArmed true s) disarm-coherent armed-coherent)
+      h
+  key-coherent Local = C (eqb (s .mode) 1) (withMode 0 s) s (moded 0 (omega arith) h) h
+
+  setting-coherent : (t : Target) (x : ℕ) → Coherent (withSetting t x s)
+  unfolding withSetting
+  setting-coherent Pv x = h
+  setting-coherent Pc x = h
+  setting-coherent Ovp x = h
+  setting-coherent Uvl x = h
+
+  knob-coherent : (m : ℕ) (t : Target) (raw : ℕ) → Coherent (turned m s t raw)
+  unfolding turned
+  knob-coherent m t raw =
+      let x : ℕ = stepped (limitsOf m) s t raw in
+      C (eqb (s .mode) 0) (withSetting t x s) s (setting-coherent t x) h
+
+remote-coherent : (s : Supply) → Coherent s → Coherent (remote s)
+unfolding remote
+remote-coherent s h =
+    moded (pick (eqb (s .mode) 0) 1 (s .mode)) (mode-picked (eqb (s .mode) 0) 1 (s .mode) (omega arith) (h .mode-known)) h
+
+remote-by-coherent : (t : Target) (s : Supply) → Coherent s → Coherent (remoteBy t s)
+unfolding remoteBy
+remote-by-coherent Pv s h = remote-coherent s h
+remote-by-coherent Pc s h = remote-coherent s h
+remote-by-coherent Ovp s h = h
+remote-by-coherent Uvl s h = h
+
+module _ (m : ℕ) where
+  reset-coherent : (s : Supply) → Coherent s → Coherent (reset m s)
+  unfolding reset fresh
+  reset-coherent s h = untripped (omega arith) (h .lines-listed)
+
+  order-coherent : (s : Supply) (o : Order) → CheckedOrder o → Coherent s → Coherent (ordered m s o)
+  unfolding ordered outDone fldDone
+  order-coherent s (Set t n) c h = remote-by-coherent t (withSetting t n s) (setting-coherent s h t n)
+  order-coherent s Ovm c h = h
+  order-coherent s (Out true) c h = remote-coherent (turnedOn s) (turned-on-coherent s h)
+  order-coherent s (Out false) c h = remote-coherent (withWant false s) h
+  order-coherent s (Fld true) c h = armed-coherent s h
+  order-coherent s (Fld false) c h = C (s .armed) (disarmed s) s (disarm-coherent s h) h
+  order-coherent s (Ast b) c h = h
+  order-coherent s (Rmt k) c h = moded k c h
+  order-coherent s (Fena b) c h = h
+  order-coherent s Cls c h = h
+  order-coherent s Rst c h = reset-coherent s h
+
+  cleared-coherent : (t : Bool) (s : Supply) → Coherent s → Coherent (cleared t s)
+  cleared-coherent t s h = C t (withFeve 0 s) s h h
+
+  act-coherent : (s : Supply) (a : Act) → Checked a → Coherent s → Coherent (acted m s a)
+  unfolding acted
+  act-coherent s (Lines b) c h = lines-coherent s h b c
+  act-coherent s (Sample v a) c h = sample-coherent s h m v a
+  act-coherent s (Press k) c h = key-coherent s h k
+  act-coherent s (Turn t raw) c h = knob-coherent s h m t raw
+  act-coherent s (Obey o) c h = order-coherent s o c h
+  act-coherent s (Ask q) c h = cleared-coherent (clearingQuery q) s h
+  act-coherent s Nothing c h = h
+
+  settled-coherent : (s t : Supply) → Coherent t → Coherent (settled s t)
+  unfolding settled
+  settled-coherent s t h = h
+
+  -- EACH CHECKED ACT, refused or not, leaves a coherent supply coherent
+  pub performed-coherent : (s : Supply) (a : Act) → Checked a → Coherent s → Coherent (performed m s a)
+  unfolding performed
+  performed-coherent s a c h =
+      C (eqb (codeOf m s a) 0) (closed a (settled s (acted m s a))) s
+      (cleared-coherent (clearingAct a) (settled s (acted m s a))
+      (settled-coherent s (acted m s a) (act-coherent s a c h)))
+      h

@@ -1,0 +1,46 @@
+-- WHAT HOLDS OF A SUPPLY'S STATE BESIDES ITS SETTINGS: a known MODE, listed LINES, no FOLD trip without foldback armed.
+use Prim.Native.Nat.{ℕ, _≤_, _<_}
+use mathlib.Core.Path.{_≡_}
+use mathlib.Core.Bool.{Bool, true}
+use lib.Bits.{bitAnd}
+use Rattle.supply.specs.declared.Supply.{Supply}
+use Rattle.supply.specs.declared.Order.{Order}
+use Rattle.supply.specs.declared.Order.the-variants.{Set, Ovm, Out, Fld, Ast, Rmt, Fena, Cls, Rst}
+use Rattle.supply.specs.declared.Act.{Act}
+use Rattle.supply.specs.declared.Act.the-variants.{Lines, Sample, Press, Turn, Obey, Ask, Nothing}
+
+-- no bit is set but AC 1, OTP 2, SO 5 and ENA 7, where the number is a byte, as in the code it always is
+abbrev pub Listed : ℕ → Type 0
+Listed b = b < 256 → bitAnd b 0xA6 ≡ b
+
+-- of the parts of a supply that hang together
+pub record Agreeing (mode lines : ℕ) (fold armed : Bool) : Type 0 where
+  -- MODE is local, remote or locked out
+  pub mode-known : mode ≤ 2
+  pub lines-listed : Listed lines
+  -- a FOLD trip stands only while foldback is armed
+  pub fold-armed : fold ≡ true → armed ≡ true
+
+abbrev pub Coherent : Supply → Type 0
+Coherent s = Agreeing (s .mode) (s .lines) (s .«fold_trip») (s .armed)
+
+-- the acts that calls can bring: RMT names a mode, and LINES has listed bits; nothing is asked of the others
+abbrev pub CheckedOrder : Order → Type 0
+CheckedOrder (Rmt k) = k ≤ 2
+CheckedOrder (Set t n) = Unit
+CheckedOrder Ovm = Unit
+CheckedOrder (Out b) = Unit
+CheckedOrder (Fld b) = Unit
+CheckedOrder (Ast b) = Unit
+CheckedOrder (Fena b) = Unit
+CheckedOrder Cls = Unit
+CheckedOrder Rst = Unit
+
+abbrev pub Checked : Act → Type 0
+Checked (Lines b) = Listed b
+Checked (Obey o) = CheckedOrder o
+Checked (Sample v a) = Unit
+Checked (Press k) = Unit
+Checked (Turn t raw) = Unit
+Checked (Ask q) = Unit
+Checked Nothing = Unit
