@@ -1,12 +1,12 @@
 -- The fresh supply is coherent, and each checked act leaves a coherent supply coherent.
 use Prim.Native.Nat.{ℕ, _≤_}
 use mathlib.Core.Path.{_≡_, refl}
-use mathlib.Core.Bool.{Bool, true, false, not, _&&_, _||_, false≢true}
+use mathlib.Core.Bool.{Bool, true, false, not, _&&_, _||_, false≢true, and-eq-true-iff}
 use native.Mathlib.Omega.{arith}
-use lib.Dec.{leb, eqb}
+use lib.Dec.{eqb}
 use Rattle.base.specs.Choice.{pick}
-use Rattle.base.proofs.Choice.{pick-keeps, and-both}
-use Rattle.models.specs.Models.{limitsOf, voltReading}
+use Rattle.base.proofs.Choice.{pick-keeps}
+use Rattle.models.specs.Models.{limitsOf}
 use Rattle.supply.specs.declared.Supply.{Supply}
 use Rattle.supply.specs.declared.Target.{Target}
 use Rattle.supply.specs.declared.Target.the-variants.{Pv, Pc, Ovp, Uvl}
@@ -20,8 +20,7 @@ use Rattle.supply.specs.With.{withFeve, withWant, withArmed, withMode, withCoun
 use Rattle.supply.specs.State.{fresh}
 use Rattle.supply.specs.Flt.{onOf, linesClear, inLimit, settled}
 use Rattle.settings.specs.Settings.{withSetting, stepped}
-use Rattle.samples.specs.Samples.{sampled}
-use Rattle.samples.proofs.Cases.{sample-law}
+use Rattle.samples.specs.Samples.{reachesOvp, tripsFold, sampled}
 use Rattle.events.specs.Events.{falls, linesChanged, turnedOn, disarmed, pressed, turned}
 use Rattle.events.proofs.Cases.{lines-law, disarm-law}
 use Rattle.orders.specs.Orders.{remote, remoteBy, outDone, fldDone, reset, ordered}
@@ -60,21 +59,23 @@ module _ (s : Supply) (h : Coherent s) where
       (record {
         mode-known = mode-picked (falls 1 (s .lines) b) _ (s .mode) known (h .mode-known);
         lines-listed = l;
-        fold-armed = λ e. h .fold-armed (and-both (not (falls 1 (s .lines) b)) (s .«fold_trip») e .1);
+        fold-armed = λ e. h .fold-armed (and-eq-true-iff (not (falls 1 (s .lines) b)) (s .«fold_trip») .0 e .1);
       })
 
   sample-coherent : (m v a : ℕ) → Coherent (sampled m s v a)
+  unfolding sampled
   sample-coherent m v a =
-      let judged : Bool = onOf s && not (leb (s .ovp) (voltReading m v)) in
-      let limited : Bool = inLimit m (withCounts v a s) in
-      rw (← sample-law m s v a)
-      (record {
+      let limited : Bool = s .armed && inLimit m (withCounts v a s) in
+      record {
         mode-known = h .mode-known;
         lines-listed = h .lines-listed;
-        fold-armed = either (judged && (s .armed && limited)) (s .«fold_trip») (s .armed)
-            (λ e. and-both (s .armed) limited (and-both judged (s .armed && limited) e .1) .0)
+        fold-armed = either (tripsFold m s v a) (s .«fold_trip») (s .armed)
+            (λ e.
+            let under = and-eq-true-iff (onOf s) (not (reachesOvp m s v) && limited) .0 e .1 in
+            let armed = and-eq-true-iff (not (reachesOvp m s v)) limited .0 under .1 in
+            and-eq-true-iff (s .armed) (inLimit m (withCounts v a s)) .0 armed .0)
             (h .fold-armed);
-      })
+      }
 
   disarm-coherent : Coherent (disarmed s)
   disarm-coherent = rw (← disarm-law s) (untripped (h .mode-known) (h .lines-listed))

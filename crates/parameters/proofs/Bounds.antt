@@ -2,13 +2,13 @@
 use Prim.Native.Nat.{ℕ, suc, _+_, _-_, _<_, _≤_}
 use mathlib.Core.Path.{_≡_, refl}
 use mathlib.Core.List.{List}
-use mathlib.Core.Bool.{Bool, true, false, _&&_}
+use mathlib.Core.Bool.{Bool, true, false, _&&_, and-eq-true-iff}
 use native.Mathlib.Omega.{arith}
 use lib.Dec.{leb, eqb}
 use lib.ListN.{length, getD}
 use borrow.Author.Tests.{leb-true}
 use Rattle.base.specs.Choice.{pick}
-use Rattle.base.proofs.Choice.{pick-keeps, and-both}
+use Rattle.base.proofs.Choice.{pick-keeps}
 use Rattle.figures.specs.declared.Number.{Number}
 use Rattle.figures.specs.Number.{numberIs, noNumber}
 use Rattle.parameters.specs.declared.Parameter.{Parameter}
@@ -33,8 +33,8 @@ digit-most most x = byTest (eqb (length x) 1 && (leb 48 (getD x 0 0) && leb (get
     byTest : (t : Bool) → (eqb (length x) 1 && (leb 48 (getD x 0 0) && leb (getD x 0 0) (48 + most))) ≡ t
         → pick t (numberIs (getD x 0 0 - 48)) noNumber .value ≤ most
     byTest true e =
-        let digit = and-both (eqb (length x) 1) (leb 48 (getD x 0 0) && leb (getD x 0 0) (48 + most)) e .1 in
-        let low = and-both (leb 48 (getD x 0 0)) (leb (getD x 0 0) (48 + most)) digit .1 in
+        let digit = and-eq-true-iff (eqb (length x) 1) (leb 48 (getD x 0 0) && leb (getD x 0 0) (48 + most)) .0 e .1 in
+        let low = and-eq-true-iff (leb 48 (getD x 0 0)) (leb (getD x 0 0) (48 + most)) .0 digit .1 in
         omega (arith, leb-true (getD x 0 0) (48 + most) low)
     byTest false e = omega arith
 

@@ -2,7 +2,9 @@
 // what is expected. A second model of the supply, which shares nothing with this one, writes the
 // table (tests/src/trial.rs tells what each number is). Prints how many cases there were and how
 // many went wrong, and before that the lines of the first wrong ones.
-use cases::CELLS;
+mod rows;
+
+use rows::CELLS;
 use libc::STDIN_FILENO;
 use libc::STDOUT_FILENO;
 
@@ -78,7 +80,7 @@ fn end_row(row: &[u64; CELLS], t: Tally) -> Tally {
     let mut r = t;
     r.at = 0;
     r.cases = one_more(t.cases);
-    if !((t.at == CELLS) & cases::row_holds(row)) {
+    if !((t.at == CELLS) & rows::row_holds(row)) {
         name_wrong(r.cases, t.wrong);
         r.wrong = one_more(t.wrong);
     }

@@ -1,6 +1,6 @@
 // A case of the supply as a row of 38 numbers has it: the state before, an act, and what is expected of it. Makes the
-// state and the act of the numbers, and tells whether the supply does what the row expects. The program `trials` reads
-// the rows; tests/src/trial.rs tells what each number is.
+// state and the act of the numbers, and tells whether the supply does what the row expects. tests/src/trial.rs tells what
+// each number is.
 use supply::Act;
 use supply::Answer;
 use supply::Key;
