@@ -32,7 +32,7 @@ use Rattle.asks.specs.declared.Asks.the-variants.{Select, BadSelect, Everyone, 
 use Rattle.asks.specs.Words.{OrderWord, set, ovm, out, fld, ast, rmt, fena, cls, rst, Command, toOne, ofOne, toAll, selecting, unknownWord, kindOf, kindOfOrder, orderWith, asksWith, failsWith, askedBy}
 use Rattle.command.specs.Lines.{heardOf}
 use Rattle.protocol.specs.Sent.{obeyed}
-use Rattle.field.specs.Fields.{pairAt, tagOf, lengthOf, payloadOf, headerCode, valuesFit, actOf, readField}
+use Rattle.field.specs.Fields.{pairAt, tagOf, lengthOf, payloadOf, headerCode, valuesFit, actOf, readField, pressOf, turnOf, quadAt}
 use Rattle.plain.specs.Plain.{stepOf, grammar, plainSupply}
 use Rattle.plain.specs.Reached.{CheckedAsks, Passed, SharesCoherent}
 use Rattle.plain.proofs.Heard.{heard-has}
@@ -89,11 +89,21 @@ lines-value : (t : ℕ) (p : List ℕ) → eqb t 4 ≡ true → valuesFit t p �
 unfolding valuesFit
 lines-value t p f e = bits-listed (getD p 1 0) (eqb-true (bitAnd (getD p 1 0) 0x59) 0 (rw (eqb-true t 4 f) at e))
 
+-- keys and knob steps are asked nothing
+press-checked : (n : ℕ) → Checked (pressOf n)
+unfolding pressOf
+press-checked n = pick-keeps Checked (eqb n 0) _ _ tt (pick-keeps Checked (eqb n 1) _ _ tt (pick-keeps Checked (eqb n 2) _ _ tt tt))
+
+turn-checked : (n step : ℕ) → Checked (turnOf n step)
+unfolding turnOf
+turn-checked n step =
+    pick-keeps Checked (eqb n 0) _ _ tt (pick-keeps Checked (eqb n 1) _ _ tt (pick-keeps Checked (eqb n 2) _ _ tt (pick-keeps Checked (eqb n 3) _ _ tt tt)))
+
 fields-checked : (t : ℕ) (p : List ℕ) → valuesFit t p ≡ true → Checked (actOf t p)
 unfolding actOf
 fields-checked t p e =
-    pick-keeps Checked (eqb t 2) _ _ tt
-    (pick-keeps Checked (eqb t 3) _ _ tt (byLines (eqb t 4) refl))
+    pick-keeps Checked (eqb t 2) _ _ (press-checked (getD p 1 0))
+    (pick-keeps Checked (eqb t 3) _ _ (turn-checked (getD p 1 0) (quadAt p 2)) (byLines (eqb t 4) refl))
   where
     byLines : (four : Bool) → eqb t 4 ≡ four
         → Checked (pick four (Lines (getD p 1 0)) (pick (eqb t 5) (Sample (pairAt p 1) (pairAt p 3)) Nothing))

@@ -4,9 +4,9 @@
 // many went wrong, and before that the lines of the first wrong ones.
 mod rows;
 
-use rows::CELLS;
 use libc::STDIN_FILENO;
 use libc::STDOUT_FILENO;
+use rows::CELLS;
 
 // The next cell of a row with too many numbers, or with something that is none.
 const SPOILED: usize = 39;
