@@ -3,6 +3,7 @@
 
 pub mod cases;
 pub mod compare;
+pub mod counts;
 pub mod direct;
 pub mod faults;
 pub mod generate;

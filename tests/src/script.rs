@@ -1,11 +1,8 @@
-//! A readable form of the program's input, one field a line, and back again.
-//!
-//! `fit 6 0`, `raw-fit FF 00 ..`, `line ADR 6`, `text ADR`, `key 6 OUTPUT`,
-//! `knob 6 PV +6000000`, `lines 6 SO ENA` (or `none`), `sample 6 45834 0`, `bytes 01 00 ..`;
-//! a # starts a comment. Text in double quotes keeps its spaces and knows \b \n \r \" \\ \xHH.
+//! A readable form of the program's input, one field a line, and back again: docs/SCRIPTS.md has its forms.
 
+use crate::counts::{least_count, units, Quantity, AMPERES, VOLTS};
 use crate::rack::{length_allowed, Rack, EMPTY, SLOTS};
-use crate::supply::{AC, ENA, MODELS, OTP, SO};
+use crate::supply::{Model, Supply, AC, ENA, MODELS, OTP, SO};
 
 const FIELD_ROOM: usize = 16;
 const KEYS: [&str; 3] = ["OUTPUT", "FOLD", "LOCAL"];
@@ -63,7 +60,7 @@ pub fn parse(source: &[u8]) -> Result<Script, String> {
             "fit" => fitting.add(rest).map_err(wrong)?,
             "raw-fit" => fitting.set_raw(rest).map_err(wrong)?,
             _ => {
-                let bytes = field_bytes(keyword, rest).map_err(wrong)?;
+                let bytes = field_bytes(keyword, rest, &fitting).map_err(wrong)?;
                 rows.push(Row { number, text: shown(text), bytes });
             }
         }
@@ -128,6 +125,18 @@ impl Fitting {
         Ok(())
     }
 
+    /// The model at an address, where there is one.
+    fn model_at(&self, address: u8) -> Option<&'static Model> {
+        let number = match &self.raw {
+            Some(raw) => raw.get(usize::from(address)),
+            None => {
+                let fitted = |(slot, _): &&(usize, u8)| *slot == usize::from(address);
+                self.slots.iter().find(fitted).map(|(_, model)| model)
+            }
+        };
+        number.and_then(|model| MODELS.get(usize::from(*model)))
+    }
+
     fn list(self) -> Vec<u8> {
         if let Some(raw) = self.raw {
             return raw;
@@ -162,7 +171,7 @@ fn hexadecimal(text: &str) -> Result<Vec<u8>, String> {
 }
 
 /// The bytes that one line of a script stands for.
-fn field_bytes(keyword: &str, rest: &str) -> Result<Vec<u8>, String> {
+fn field_bytes(keyword: &str, rest: &str, fitting: &Fitting) -> Result<Vec<u8>, String> {
     let words: Vec<&str> = before_comment(rest).split_whitespace().collect();
     match keyword {
         "line" => {
@@ -177,7 +186,7 @@ fn field_bytes(keyword: &str, rest: &str) -> Result<Vec<u8>, String> {
         "key" => key_field(&words),
         "knob" => knob_field(&words),
         "lines" => lines_field(&words),
-        "sample" => sample_field(&words),
+        "sample" => sample_field(&words, fitting),
         "bytes" => match hexadecimal(before_comment(rest))? {
             bytes if bytes.is_empty() => Err("bytes needs at least one byte".into()),
             bytes => Ok(bytes),
@@ -239,14 +248,50 @@ fn lines_field(words: &[&str]) -> Result<Vec<u8>, String> {
     Ok(field(4, &[address(slot)?, byte]))
 }
 
-fn sample_field(words: &[&str]) -> Result<Vec<u8>, String> {
+fn sample_field(words: &[&str], fitting: &Fitting) -> Result<Vec<u8>, String> {
     let [slot, volts, amperes] = words else {
         return Err("sample needs an address and two counts, as in: sample 6 45834 0".into());
     };
-    let volts: u16 = whole(volts, "volt count", 0, 65_535)?;
-    let amperes: u16 = whole(amperes, "ampere count", 0, 65_535)?;
+    let address = address(slot)?;
+    let count = |word: &str, quantity| count_of(word, quantity, address, fitting);
+    let (volts, amperes) = (count(volts, &VOLTS)?, count(amperes, &AMPERES)?);
     let counts = [volts.to_be_bytes(), amperes.to_be_bytes()].concat();
-    Ok(field(5, &[&[address(slot)?], &counts[..]].concat()))
+    Ok(field(5, &[&[address], &counts[..]].concat()))
+}
+
+/// A count as it is, or that of a value with its letter behind it.
+fn count_of(
+    word: &str,
+    quantity: &Quantity,
+    address: u8,
+    fitting: &Fitting,
+) -> Result<u16, String> {
+    let letters = [quantity.letter, quantity.letter.to_ascii_lowercase()];
+    let Some(value) = word.strip_suffix(letters) else {
+        return whole(word, quantity.name, 0, i64::from(u16::MAX));
+    };
+    let (letter, decimals) = (quantity.letter, quantity.decimals);
+    let value = units(value, decimals).ok_or_else(|| {
+        format!(
+            "'{word}' is no value: digits, a point and at most {decimals} decimals, then {letter}"
+        )
+    })?;
+    let model = fitting.model_at(address);
+    let rating = model.map(quantity.rating).ok_or_else(|| {
+        format!("'{word}' needs a rating, and address {address} has no supply: give counts")
+    })?;
+    let most = Supply::reading(u16::MAX, rating);
+    least_count(value, rating).ok_or_else(|| {
+        let most = shown_units(most, decimals);
+        format!(
+            "'{word}' is more than the highest count reads at address {address}, {most} {letter}"
+        )
+    })
+}
+
+fn shown_units(value: i64, decimals: usize) -> String {
+    let unit = 10_i64.pow(decimals as u32);
+    format!("{}.{:0decimals$}", value / unit, value % unit)
 }
 
 /// The text of a `line` or `text`: plain up to the comment, or quoted.

@@ -42,6 +42,9 @@ pub const MODELS: [Model; 12] = [
     row(6000, 13, 50, 6600, 5700),
 ];
 
+/// A sample of this count reads as the rating.
+pub const COUNTS_AT_RATING: i64 = 50_000;
+
 impl Model {
     /// PV and PC may go to 105 % of the rating, which is a whole tick or mA for every model.
     fn most_of(rating: i64) -> i64 {
@@ -318,8 +321,8 @@ impl Supply {
     }
 
     /// Clause "Sample event": a count of 50,000 is the rating; the rest below a unit is cut.
-    fn reading(count: u16, rating: i64) -> i64 {
-        i64::from(count) * rating / 50_000
+    pub fn reading(count: u16, rating: i64) -> i64 {
+        i64::from(count) * rating / COUNTS_AT_RATING
     }
 
     pub fn volt_reading(&self) -> i64 {
