@@ -5,6 +5,7 @@ pub mod cases;
 pub mod compare;
 pub mod counts;
 pub mod direct;
+pub mod documents;
 pub mod faults;
 pub mod generate;
 pub mod line;

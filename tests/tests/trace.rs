@@ -1,11 +1,7 @@
 //! docs/TRACE.md against the repository: each file that a row names is there with the names behind it, and so is each case.
 
+use rack_tests::documents::{has_word, top};
 use std::fs;
-use std::path::{Path, PathBuf};
-
-fn top() -> PathBuf {
-    Path::new(env!("CARGO_MANIFEST_DIR")).join("..")
-}
 
 /// The cells of each row that has a definition, a statement and a test.
 fn rows(text: &str) -> Vec<Vec<String>> {
@@ -35,15 +31,6 @@ fn quoted(cell: &str) -> impl Iterator<Item = &str> {
 
 fn is_file(name: &str) -> bool {
     [".antt", ".rt", ".rs", ".edit"].iter().any(|end| name.ends_with(end))
-}
-
-fn has_word(text: &str, word: &str) -> bool {
-    let in_name = |c: char| c.is_alphanumeric() || "_-′".contains(c);
-    text.match_indices(word).any(|(at, _)| {
-        let before = text[..at].chars().next_back();
-        let behind = text[at + word.len()..].chars().next();
-        !before.is_some_and(in_name) && !behind.is_some_and(in_name)
-    })
 }
 
 /// What a cell says of files that is not so: a path is below crates/, and the names up to the next ; stand in its file.
