@@ -78,5 +78,6 @@ moved =
       repeated = λ r r₂ g g₂.
           isolated-code (setupOf fittingList) here 6 refl .alike-unaddressed r g (setupOf listThere) there r₂ 9 g₂ refl
           (ap (map unaddressed) share-here ∙ addresses-only ∙ sym (ap (map unaddressed) share-there));
-      ends-as = λ r g. isolated-code (setupOf fittingList) here 6 refl .ends r g ∙ ap (plain plainSupply 0) share-here ∙ end-here;
+      ends-as = λ r g.
+          isolated-code (setupOf fittingList) here 6 refl .ends r g ∙ ap (plain plainSupply 0) share-here ∙ end-here;
     }

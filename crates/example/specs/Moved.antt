@@ -1,4 +1,4 @@
--- THE SAME LIST AT ANOTHER ADDRESS: a cell of model 0, worked by knob, keys and samples, in slot 6 of one rack and in slot 9 of another.
+-- THE SAME LIST AT ANOTHER ADDRESS: a cell worked by knob, keys and samples, in slot 6 of one rack and in slot 9 of another.
 use Prim.Native.Nat.{ℕ, _/_, _%_}
 use mathlib.Core.Path.{_≡_}
 use mathlib.Core.List.{List, [], _∷_, _++_}
@@ -19,7 +19,7 @@ key a k = record { bytes = 2 ∷ 0 ∷ 2 ∷ a ∷ k ∷ []; room = 512 }
 abbrev pub knob : ℕ → ℕ → ℕ → Call
 knob a t d = record { bytes = 3 ∷ 0 ∷ 6 ∷ a ∷ t ∷ 0 ∷ 0 ∷ d / 256 ∷ d % 256 ∷ []; room = 512 }
 
--- slot 6: PV turned to 5 V and PC to 10 A, foldback armed, the output on, and a sample of 10 A; the neighbour works meanwhile
+-- slot 6: PV turned to 5 V and PC to 10 A, foldback armed, the output on, a sample of 10 A; the neighbour works meanwhile
 unfoldable pub here : List Call
 here =
     knob 6 0 50000 ∷ key 9 0 ∷ knob 6 1 10000 ∷ key 6 1 ∷ serial "ADR 9\rPV 3\r" ∷ key 6 0 ∷
@@ -30,7 +30,9 @@ unfoldable pub listThere : List ℕ
 listThere = replicate 9 255 ++ 0 ∷ replicate 21 255
 
 unfoldable pub there : List Call
-there = serial "ADR 9\r" ∷ knob 9 0 50000 ∷ knob 9 1 10000 ∷ key 9 1 ∷ key 9 0 ∷ sample 9 40000 5000 ∷ serial "FLT?\r" ∷ []
+there =
+    serial "ADR 9\r" ∷ knob 9 0 50000 ∷ knob 9 1 10000 ∷ key 9 1 ∷
+    key 9 0 ∷ sample 9 40000 5000 ∷ serial "FLT?\r" ∷ []
 
 -- both end with the FOLD trip, the output still ordered, in local mode
 unfoldable pub foldedBack : Supply
@@ -59,5 +61,6 @@ pub record Moved : Type 0 where
   -- there are such runs; they end alike, and so
   pub runs-here : (r : Rack) × Run (setupOf fittingList) here r
   pub runs-there : (r : Rack) × Run (setupOf listThere) there r
-  pub repeated : (r r₂ : Rack) → Run (setupOf fittingList) here r → Run (setupOf listThere) there r₂ → supplyAt r 6 ≡ supplyAt r₂ 9
+  pub repeated : (r r₂ : Rack) → Run (setupOf fittingList) here r → Run (setupOf listThere) there r₂
+      → supplyAt r 6 ≡ supplyAt r₂ 9
   pub ends-as : (r : Rack) → Run (setupOf fittingList) here r → supplyAt r 6 ≡ foldedBack

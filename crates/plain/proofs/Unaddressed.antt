@@ -1,5 +1,4 @@
--- An entry acts as the one with address 0 in the place of its own does, and that one is the same for entries that differ in their
--- address alone.
+-- An entry acts as the one with address 0 in the place of its own does; entries that differ in their address alone share it.
 use Prim.Native.Nat.{ℕ}
 use mathlib.Core.Path.{_≡_, refl, sym, ap, _∙_}
 use mathlib.Core.List.{List, [], _∷_, map, foldl}
@@ -50,7 +49,8 @@ address-unread e f same =
       releases = λ m k s. releases-moved m k s e ∙ ap (releasesOf m k s) q ∙ sym (releases-moved m k s f);
     }
 
-steps-moved : (m : ℕ) (s : Supply) (es : List Entry) → foldl (stepOf m) s es ≡ foldl (stepOf m) s (map atZero (map unaddressed es))
+steps-moved : (m : ℕ) (s : Supply) (es : List Entry)
+    → foldl (stepOf m) s es ≡ foldl (stepOf m) s (map atZero (map unaddressed es))
 steps-moved m s [] = refl
 steps-moved m s (e ∷ es) =
     ap (λ (x : Supply). foldl (stepOf m) x es) (step-moved m s e) ∙ steps-moved m (stepOf m s (moved e)) es

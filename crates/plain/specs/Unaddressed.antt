@@ -27,4 +27,6 @@ AddressUnread = (e f : Entry) → unaddressed e ≡ unaddressed f → SameToSupp
 -- so lists of entries that are equal once their addresses are taken off leave a supply in the same state
 abbrev pub AddressesUnread : Type 0
 AddressesUnread =
-    (m : ℕ) (es fs : List Entry) → map unaddressed es ≡ map unaddressed fs → plain plainSupply m es ≡ plain plainSupply m fs
+    (m : ℕ) (es fs : List Entry)
+    → map unaddressed es ≡ map unaddressed fs
+    → plain plainSupply m es ≡ plain plainSupply m fs
