@@ -260,7 +260,7 @@ impl Maker {
             1 => self.mix_case(&mut line),
             _ => {}
         }
-        self.add_sum(&mut line);
+        self.add_checksum(&mut line);
         self.add_noise(&mut line);
         line.push(b'\r');
         self.waiting.extend(line);
@@ -274,7 +274,7 @@ impl Maker {
         }
     }
 
-    fn add_sum(&mut self, line: &mut Vec<u8>) {
+    fn add_checksum(&mut self, line: &mut Vec<u8>) {
         let right = checksum(line);
         let text = match self.draw.below(30) {
             0..=2 => format!("${right:02X}"),

@@ -33,11 +33,11 @@ pub enum Said {
 pub struct Reading {
     pub whom: Whom,
     /// The line carried a right checksum, so its replies carry one too.
-    pub summed: bool,
+    pub checksummed: bool,
     pub said: Result<Said, Code>,
 }
 
-/// The sum of all bytes, modulo 256.
+/// The checksum of all bytes, modulo 256.
 pub fn checksum(bytes: &[u8]) -> u8 {
     bytes.iter().fold(0, |sum: u8, byte| sum.wrapping_add(*byte))
 }
@@ -46,15 +46,15 @@ pub fn checksum(bytes: &[u8]) -> u8 {
 /// are ever kept.
 pub fn read(kept: &[u8], spoiled: bool) -> Reading {
     if spoiled {
-        return Reading { whom: Whom::Selected, summed: false, said: Err(Code::C01) };
+        return Reading { whom: Whom::Selected, checksummed: false, said: Err(Code::C01) };
     }
-    let (text, summed) = match cut_sum(kept) {
+    let (text, checksummed) = match cut_checksum(kept) {
         Sum::Absent => (kept, false),
         Sum::Right(text) => (text, true),
-        Sum::Wrong => return Reading { whom: Whom::Selected, summed: false, said: Err(Code::C04) },
+        Sum::Wrong => return Reading { whom: Whom::Selected, checksummed: false, said: Err(Code::C04) },
     };
     let (whom, said) = understand(text);
-    Reading { whom, summed, said }
+    Reading { whom, checksummed, said }
 }
 
 enum Sum<'a> {
@@ -64,7 +64,7 @@ enum Sum<'a> {
 }
 
 /// A $ as third last character makes the last two a checksum of what stands before it.
-fn cut_sum(kept: &[u8]) -> Sum<'_> {
+fn cut_checksum(kept: &[u8]) -> Sum<'_> {
     let Some(at) = kept.len().checked_sub(3).filter(|at| kept[*at] == b'$') else {
         return Sum::Absent;
     };
@@ -222,17 +222,17 @@ pub fn obey(supply: &mut Supply, said: Result<Said, Code>) -> Answer {
 }
 
 /// Clause "A reply": the answer, a checksum if the line had a right one, and a CR.
-pub fn reply(answer: Answer, summed: bool) -> Vec<u8> {
+pub fn reply(answer: Answer, checksummed: bool) -> Vec<u8> {
     let mut bytes = Vec::new();
-    add_reply(&mut bytes, answer, summed);
+    add_reply(&mut bytes, answer, checksummed);
     bytes
 }
 
 /// Puts such a reply after those that are there.
-pub fn add_reply(replies: &mut Vec<u8>, answer: Answer, summed: bool) {
+pub fn add_reply(replies: &mut Vec<u8>, answer: Answer, checksummed: bool) {
     let start = replies.len();
     write!(replies, "{answer}").expect("a vector takes any bytes");
-    if summed {
+    if checksummed {
         let sum = checksum(&replies[start..]);
         write!(replies, "${sum:02X}").expect("a vector takes any bytes");
     }

@@ -133,7 +133,7 @@ impl Rack {
     fn tell_selected(&mut self, reading: Reading, replies: &mut Vec<u8>) {
         let Some(slot) = self.selected else { return };
         if let Some(supply) = &mut self.slots[slot] {
-            line::add_reply(replies, line::obey(supply, reading.said), reading.summed);
+            line::add_reply(replies, line::obey(supply, reading.said), reading.checksummed);
         }
     }
 }

@@ -98,7 +98,7 @@ enum Sort {
 }
 
 /// The part before a right checksum; none if the checksum is wrong.
-fn without_sum(kept: &[u8]) -> Option<&[u8]> {
+fn without_checksum(kept: &[u8]) -> Option<&[u8]> {
     let [text @ .., b'$', high, low] = kept else {
         return Some(kept);
     };
@@ -109,7 +109,7 @@ fn without_sum(kept: &[u8]) -> Option<&[u8]> {
 }
 
 fn sort(kept: &[u8], spoiled: bool) -> Sort {
-    let Some(text) = without_sum(kept).filter(|_| !spoiled) else {
+    let Some(text) = without_checksum(kept).filter(|_| !spoiled) else {
         return Sort::Other;
     };
     let mut halves = text.splitn(2, |byte| *byte == b' ');

@@ -7,7 +7,7 @@ use rack_tests::supply::{Event, Key, Supply, Target};
 fn say(supply: &mut Supply, text: &str) -> String {
     let reading = line::read(text.as_bytes(), false);
     let answer = line::obey(supply, reading.said);
-    let reply = line::reply(answer, reading.summed);
+    let reply = line::reply(answer, reading.checksummed);
     String::from_utf8_lossy(&reply).trim_end_matches('\r').to_string()
 }
 

@@ -24,7 +24,7 @@ impl Exchange {
         String::from_utf8_lossy(word).to_uppercase()
     }
 
-    /// The reply without its sum.
+    /// The reply without its checksum.
     fn code(&self) -> &str {
         self.reply.split('$').next().unwrap_or_default()
     }
@@ -108,7 +108,7 @@ fn the_bench_figures_stand_at_the_start() {
     assert!(stored().starts_with(figures));
 }
 
-/// Each word with the codes that lines alone can draw from it, spoiled and wrongly summed ones
+/// Each word with the codes that lines alone can draw from it, spoiled and wrongly checksummed ones
 /// aside. E07 takes a LINES byte, which no line brings.
 const WORDS: [(&str, &[&str]); 31] = [
     ("PV", &["OK", "C02", "C03", "C05", "E01", "E02"]),
@@ -169,7 +169,7 @@ fn every_word_comes_in_capitals_small_and_mixed() {
     }
 }
 
-/// A reply of each kind, with its sum.
+/// A reply of each kind, with its checksum.
 #[rustfmt::skip]
 const SUMMED: [&str; 19] = [
     "OK$9A", "C01$A4", "C02$A5", "C03$A6", "C05$A8", "E01$A6", "E02$A7", "E04$A9", "E06$AB",
@@ -185,5 +185,5 @@ fn every_reply_comes_with_a_sum_and_without() {
         let bare = reply.split('$').next().unwrap_or_default();
         assert!(replies.contains(reply) && replies.contains(bare), "{reply}");
     }
-    assert!(!all.iter().any(|one| one.reply.starts_with("C04$")), "a wrong sum draws no sum");
+    assert!(!all.iter().any(|one| one.reply.starts_with("C04$")), "a wrong checksum draws no checksum");
 }

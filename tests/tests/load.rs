@@ -10,7 +10,7 @@ use std::process::{Command, Output};
 use std::{env, fs, process};
 
 const KINDS: [&str; 8] =
-    ["samples", "serial", "mixed", "query", "order", "queries", "summed", "global"];
+    ["samples", "serial", "mixed", "query", "order", "queries", "checksummed", "global"];
 
 fn load(kind: &str, fields: usize, slots: usize) -> Vec<u8> {
     let numbers = [fields, slots, 750].map(|number| number.to_string());
@@ -49,7 +49,7 @@ fn nothing_of_a_load_is_refused() {
 fn no_line_of_the_plain_loads_is_at_fault() {
     let set_up = 5 * SLOTS;
     for (kind, at_each) in
-        [("query", 1), ("order", 1), ("queries", 3), ("summed", 1), ("global", 0)]
+        [("query", 1), ("order", 1), ("queries", 3), ("checksummed", 1), ("global", 0)]
     {
         let before = replies(&load(kind, set_up, SLOTS)).len();
         let all = replies(&load(kind, set_up + 1_000, SLOTS));

@@ -28,7 +28,7 @@ use Rattle.events.specs.Events.{anyRises, falls, acFallen, linesChanged, turned
 use Rattle.codes.specs.Codes.{setCode, orderCode}
 use Rattle.orders.specs.Orders.{remote, remoteBy, outDone, fldDone, reset, ordered}
 use Rattle.acts.specs.Acts.{codeOf, clearingQuery, clearingAct, cleared, acted, closed, performed}
-use Rattle.settings.specs.Lawful.{Kept, Lawful, Admissible}
+use Rattle.settings.specs.Lawful.{Bounded, Lawful, Admissible}
 use Rattle.settings.proofs.Knob.{within, from-range, stepped-nearest}
 use Rattle.codes.proofs.Accepted.{accepted-range}
 
@@ -39,7 +39,7 @@ fresh-lawful m =
 
 module _ (l : Limits) (s : Supply) where
   -- an accepted figure is admissible, where the supply keeps margins and limits
-  pub accepted-admissible : Kept l s → (t : Target) (n : ℕ) → setCode l s t n ≡ 0 → Admissible l s t n
+  pub accepted-admissible : Bounded l s → (t : Target) (n : ℕ) → setCode l s t n ≡ 0 → Admissible l s t n
   accepted-admissible h t n e = let r = accepted-range l s t n e in from-range l s t n h (r .0) (r .1)
 
   -- and an admissible one is accepted

@@ -1,3 +1,4 @@
+// Layer supply.
 // Whatever a supply can be asked, in three stages: what it does, what the registers gain, and how it closes.
 ghost use mathlib.Core.Path.{_≡_};
 ghost use Rattle.supply.specs.Flt.{settled};

@@ -9,8 +9,8 @@ use Rattle.supply.specs.declared.Query.{Query}
 use Rattle.supply.specs.declared.Query.the-variants.{Pv, Pc, Ovp, Uvl, Mv, Mc, Out, Fld, Ast, Rmt, Mode, Flt, Fena, Feve}
 use Rattle.supply.specs.declared.Word.{Word}
 use Rattle.supply.specs.declared.Word.the-variants.{On, Off, Loc, Rem, Llo, Cc, Cv}
-use Rattle.supply.specs.declared.Answer.{Answer}
-use Rattle.supply.specs.declared.Answer.the-variants.{Figure, Says, Hex}
+use Rattle.supply.specs.declared.QueryAnswer.{QueryAnswer}
+use Rattle.supply.specs.declared.QueryAnswer.the-variants.{Figure, Says, Hex}
 use Rattle.supply.specs.Flt.{fltOf, onOf, inLimit}
 
 -- a switch is ON or OFF
@@ -27,7 +27,7 @@ unfoldable pub running : ℕ → Supply → Word
 running m s = pick (onOf s) (pick (inLimit m s) Cc Cv) Off
 
 -- a figure has its decimals, four for volts and three for amperes; OUT? tells the output and not WANT
-unfoldable pub answerOf : ℕ → Supply → Query → Answer
+unfoldable pub answerOf : ℕ → Supply → Query → QueryAnswer
 answerOf m s Pv = Figure 4 (s .pv)
 answerOf m s Pc = Figure 3 (s .pc)
 answerOf m s Ovp = Figure 4 (s .ovp)

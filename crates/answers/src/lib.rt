@@ -1,8 +1,9 @@
+// Layer supply.
 // What a query is answered: a figure, a word or a byte, of the supply as it stands.
 ghost use mathlib.Core.Path.{_≡_};
 ghost use Rattle.answers.specs.Answers.{switchOf, modeWord, running, answerOf};
-use supply::Answer;
 use supply::Query;
+use supply::QueryAnswer;
 use supply::Supply;
 use supply::Word;
 
@@ -39,23 +40,23 @@ fn running_word(model: u8, s: Supply) -> Word
 }
 
 // The answer to a query, the supply as it stands before it.
-pub fn answer_to(model: u8, s: Supply, q: Query) -> Answer
+pub fn answer_to(model: u8, s: Supply, q: Query) -> QueryAnswer
     ensures { λ r. ⌜ r ≡ answerOf model s q ⌝ }
 {
     match q {
-        Query::Pv => Answer::Figure(4, s.pv as u64),
-        Query::Pc => Answer::Figure(3, s.pc as u64),
-        Query::Ovp => Answer::Figure(4, s.ovp as u64),
-        Query::Uvl => Answer::Figure(4, s.uvl as u64),
-        Query::Mv => Answer::Figure(4, models::volt_reading(model, s.volt_count)),
-        Query::Mc => Answer::Figure(3, models::amp_reading(model, s.amp_count)),
-        Query::Out => Answer::Says(switch_word(supply::is_on(s))),
-        Query::Fld => Answer::Says(switch_word(s.armed)),
-        Query::Ast => Answer::Says(switch_word(s.ast)),
-        Query::Rmt => Answer::Says(mode_word(s.mode)),
-        Query::Mode => Answer::Says(running_word(model, s)),
-        Query::Flt => Answer::Hex(supply::flt(s)),
-        Query::Fena => Answer::Hex(s.fena),
-        Query::Feve => Answer::Hex(s.feve),
+        Query::Pv => QueryAnswer::Figure(4, s.pv as u64),
+        Query::Pc => QueryAnswer::Figure(3, s.pc as u64),
+        Query::Ovp => QueryAnswer::Figure(4, s.ovp as u64),
+        Query::Uvl => QueryAnswer::Figure(4, s.uvl as u64),
+        Query::Mv => QueryAnswer::Figure(4, models::volt_reading(model, s.volt_count)),
+        Query::Mc => QueryAnswer::Figure(3, models::amp_reading(model, s.amp_count)),
+        Query::Out => QueryAnswer::Says(switch_word(supply::is_on(s))),
+        Query::Fld => QueryAnswer::Says(switch_word(s.armed)),
+        Query::Ast => QueryAnswer::Says(switch_word(s.ast)),
+        Query::Rmt => QueryAnswer::Says(mode_word(s.mode)),
+        Query::Mode => QueryAnswer::Says(running_word(model, s)),
+        Query::Flt => QueryAnswer::Hex(supply::flt(s)),
+        Query::Fena => QueryAnswer::Hex(s.fena),
+        Query::Feve => QueryAnswer::Hex(s.feve),
     }
 }

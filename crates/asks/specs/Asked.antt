@@ -1,4 +1,4 @@
--- A line without its sum: its word, its parameter, and what it asks.
+-- A line without its checksum: its word, its parameter, and what it asks.
 use Prim.Native.Nat.{ℕ, _+_}
 use mathlib.Core.List.{List}
 use lib.ListN.{take, drop}
@@ -18,6 +18,6 @@ wordOf t = take (firstAt 32 t) t
 abbrev pub parameterText : List ℕ → List ℕ
 parameterText t = drop (firstAt 32 t + 1) t
 
--- what a line without its sum asks; an empty one asks nothing, and is OK
+-- what a line without its checksum asks; an empty one asks nothing, and is OK
 unfoldable pub asksOf : List ℕ → Asks
 asksOf t = pick (isEmpty t) (One Nothing) (askedBy (commandOf (upperAll (wordOf t))) (parameterText t))

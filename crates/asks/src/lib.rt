@@ -1,3 +1,4 @@
+// Layer line.
 // What a line asks, by its word and its parameter: an order, a query, an address to select, or a code.
 ghost use mathlib.Core.Path.{_≡_};
 ghost use Prim.Native.Nat.{_≤_};
@@ -243,7 +244,7 @@ fn asks_of_word(word: u64, x: &[u8]) -> Asks
     }
 }
 
-// What a line without its sum asks.
+// What a line without its checksum asks.
 pub fn asks_of(t: &[u8]) -> Asks
     ensures { λ r. ⌜ r ≡ asksOf (now (t .entry)) ⌝ }
 {

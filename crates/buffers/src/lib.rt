@@ -1,3 +1,4 @@
+// Layer ground.
 // The bytes that a program has in its buffers: replies as they are printed, and what is left of the input.
 ghost use mathlib.Core.Path.{_≡_};
 ghost use Rattle.base.specs.Lists.{eachTo};

@@ -27,7 +27,7 @@ pub record Accepted (q : wire.Rack Supply) (used : ℕ) (t b : List ℕ) (a : An
 
 -- a refusal holds of any rack; what an accepted field does is said of a rack whose line has 64 characters at most, as every rack has
 -- that a fitting list and calls lead to
-abbrev pub Answered : Rack → List ℕ → wire.Answer Supply → Answer → List ℕ → Type 0
+abbrev pub Answered : Rack → List ℕ → wire.CallResult Supply → Answer → List ℕ → Type 0
 Answered r b (wire.refused n) a b′ = (a ≡ refusal r n) × (b′ ≡ b)
 Answered r b (wire.done q used t) a b′ = Able r → Accepted q used t b a b′
 

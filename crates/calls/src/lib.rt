@@ -1,3 +1,4 @@
+// Layer calls.
 // One call on a rack: the first field of the lent bytes, done or refused, and its replies.
 ghost use Rattle.calls.specs.Calls.{CallDoes};
 use slots::Rack;

@@ -1,3 +1,4 @@
+// Layer outside.
 // `fit` and `call` for programs in C or Rust: what is exported, and nothing else. The rack stays in its owner's memory.
 ghost use Rattle.rack.specs.Fit.{FitDoes};
 ghost use Rattle.calls.specs.Calls.{CallDoes};

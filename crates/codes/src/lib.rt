@@ -1,3 +1,4 @@
+// Layer supply.
 // The code that an order draws: its checks in turn, and 0 where it is accepted.
 ghost use mathlib.Core.Path.{_≡_};
 ghost use mathlib.Core.Bool.{_||_};

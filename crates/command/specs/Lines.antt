@@ -1,4 +1,4 @@
--- A line's kept characters: its sum, and what the line asks at its CR.
+-- A line's kept characters: its checksum, and what the line asks at its CR.
 use Prim.Native.Nat.{ℕ, _-_}
 use mathlib.Core.List.{List}
 use mathlib.Core.Bool.{Bool, true, false, _&&_}
@@ -12,25 +12,25 @@ use Rattle.command.specs.declared.Heard.{Heard}
 use Rattle.parameters.specs.Parameters.{c01, c04}
 use Rattle.asks.specs.Asked.{asksOf}
 
--- a line has a sum where its third last character is $ (36)
-abbrev pub hasSum : List ℕ → Bool
-hasSum t = leb 3 (length t) && eqb (getD t (length t - 3) 0) 36
+-- a line has a checksum where its third last character is $ (36)
+abbrev pub hasChecksum : List ℕ → Bool
+hasChecksum t = leb 3 (length t) && eqb (getD t (length t - 3) 0) 36
 
 -- what stands before the $, and the two characters after it
-abbrev pub summedPart : List ℕ → List ℕ
-summedPart t = take (length t - 3) t
+abbrev pub beforeChecksum : List ℕ → List ℕ
+beforeChecksum t = take (length t - 3) t
 
--- the last two are hexadecimal digits of either case and are the sum of all bytes before the $
-unfoldable pub rightSum : List ℕ → Bool
-rightSum t = readHex (drop (length t - 2) t) .good && eqb (readHex (drop (length t - 2) t) .value) (checksum (summedPart t))
+-- the last two are hexadecimal digits of either case and are the checksum of all bytes before the $
+unfoldable pub rightChecksum : List ℕ → Bool
+rightChecksum t = readHex (drop (length t - 2) t) .good && eqb (readHex (drop (length t - 2) t) .value) (checksum (beforeChecksum t))
 
 abbrev pub heardAs : Asks → Bool → Heard
-heardAs a t = record { asks = a; summed = t }
+heardAs a t = record { asks = a; checksummed = t }
 
--- a line at its CR: spoiled is C01, a wrong sum C04; a right sum is taken off, once, and the reply will carry one
+-- a line at its CR: spoiled is C01, a wrong checksum C04; a right checksum is taken off, once, and the reply will carry one
 unfoldable pub heardOf : List ℕ → Bool → Heard
 heardOf t spoiled =
     pick spoiled (heardAs (Error c01) false)
-    (pick (hasSum t)
-    (pick (rightSum t) (heardAs (asksOf (summedPart t)) true) (heardAs (Error c04) false))
+    (pick (hasChecksum t)
+    (pick (rightChecksum t) (heardAs (asksOf (beforeChecksum t)) true) (heardAs (Error c04) false))
     (heardAs (asksOf t) false))

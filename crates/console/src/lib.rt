@@ -1,3 +1,4 @@
+// Layer outside.
 // What the programs read from standard input and write to standard output, whatever read and write return: a call that a signal
 // interrupts, or that would have to wait, is made again; one that fails for good is a fault, which is reported on standard error.
 ghost use mathlib.Core.Path.{_≡_};

@@ -1,9 +1,10 @@
+// Layer outside.
 // The program: standard input brings a fitting list and then fields; what they draw goes to standard output, its lines ended
 // by LF. A field is answered as soon as its last byte is there. A refusal is printed and ends the program.
 ghost use mathlib.Core.Path.{_≡_};
 ghost use lib.ListN.{length};
 ghost use Rattle.slots.specs.View.{Able};
-ghost use Rattle.controller.specs.Turn.{TurnDoes};
+ghost use Rattle.controller.specs.Cycle.{CycleDoes};
 use slots::Rack;
 
 // The bytes of a fitting list.
@@ -15,9 +16,9 @@ const FULL: usize = 7_680;
 // The byte that ends each line written.
 const LF: u8 = 10;
 
-// A turn: the rack after it, the bytes that its fields had, how many bytes are to be written, the number of the refusal that ended it, or
+// A cycle: the rack after it, the bytes that its fields had, how many bytes are to be written, the number of the refusal that ended it, or
 // 0 where the buffer was full, and whether to read on, as bytes to come may mend the refusal.
-struct Turned {
+struct CycleOutcome {
     rack: Rack,
     used: usize,
     length: usize,
@@ -26,14 +27,14 @@ struct Turned {
 }
 
 // Works the bytes that are there, up to a refusal or a full buffer. What is to be written stands at the start of the buffer.
-fn turn(r: Rack, s: &[u8], out: &mut [u8]) -> Turned
+fn cycle(r: Rack, s: &[u8], out: &mut [u8]) -> CycleOutcome
     requires { ⌜ Able r × (length (now out) ≡ 8192) ⌝ }
-    ensures { λ t. ⌜ TurnDoes r (now (s .entry)) (now (out .entry)) t (now (out .exit)) ⌝ }
+    ensures { λ t. ⌜ CycleDoes r (now (s .entry)) (now (out .entry)) t (now (out .exit)) ⌝ }
 {
     let w = engine::work(r, s, out, FULL, LF);
     let rack = w.rack;
     let code = w.code;
-    Turned {
+    CycleOutcome {
         rack,
         used: w.used,
         length: w.next,
@@ -42,7 +43,7 @@ fn turn(r: Rack, s: &[u8], out: &mut [u8]) -> Turned
     }
 }
 
-// Works the input turn by turn, and writes what each draws, to the input's end, the first refusal or a fault; tells the number of the
+// Works the input cycle by cycle, and writes what each draws, to the input's end, the first refusal or a fault; tells the number of the
 // refusal, or 0.
 fn take_input(r: Rack, room: &mut [u8], out: &mut [u8]) -> u8
     requires { ⌜ Able r × (length (now out) ≡ 8192) × (length (now room) ≡ 8192) ⌝ }
@@ -55,7 +56,7 @@ fn take_input(r: Rack, room: &mut [u8], out: &mut [u8]) -> u8
     while more {
         block = stream::refill(room, block, code);
         let there = base::part_to(room, block.end);
-        let t = turn(rack, base::part_from(there, block.from), out);
+        let t = cycle(rack, base::part_from(there, block.from), out);
         rack = t.rack;
         code = t.code;
         sent = console::write_out(base::part_to(out, t.length));

@@ -1,3 +1,4 @@
+// Layer checks.
 // Talks to a supply line by line, and holds each reply against the one that is expected. Standard
 // input has the lines and the replies; a second model of the serial line, which shares nothing with
 // this one, writes them (tests/src/bin/dialogue.rs). An item stands on each line of the input:
@@ -121,21 +122,21 @@ fn obey_silently(model: u8, s: Supply, a: Act) -> Obeyed {
 }
 
 // OK, or a code, from a supply that does nothing.
-fn reply_code(s: Supply, code: u8, summed: bool, buf: &mut [u8]) -> Obeyed {
-    let next = texts::put_code_reply(buf, 0, code, summed);
+fn reply_code(s: Supply, code: u8, checksummed: bool, buf: &mut [u8]) -> Obeyed {
+    let next = texts::put_code_reply(buf, 0, code, checksummed);
     Obeyed { supply: s, next }
 }
 
 // What comes of a line at its CR. An ADR is answered here, and changes nothing.
 fn hear_line(model: u8, s: Supply, line: &[u8], spoiled: bool, buf: &mut [u8]) -> Obeyed {
     let heard = command::read_line(line, spoiled);
-    let summed = heard.summed;
+    let checksummed = heard.checksummed;
     let asks = heard.asks;
     match asks {
-        Asks::One(a) => reply::obey(model, s, a, summed, buf, 0),
-        Asks::Select(_) => reply_code(s, 0, summed, buf),
-        Asks::BadSelect(code) => reply_code(s, code, summed, buf),
-        Asks::Error(code) => reply_code(s, code, summed, buf),
+        Asks::One(a) => reply::obey(model, s, a, checksummed, buf, 0),
+        Asks::Select(_) => reply_code(s, 0, checksummed, buf),
+        Asks::BadSelect(code) => reply_code(s, code, checksummed, buf),
+        Asks::Error(code) => reply_code(s, code, checksummed, buf),
         Asks::Everyone(o) => obey_silently(model, s, Act::Obey(o)),
         Asks::Nobody => Obeyed { supply: s, next: 0 },
     }

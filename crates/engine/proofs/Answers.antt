@@ -27,7 +27,7 @@ abbrev pub drawn : wire.Rack Supply → List Item → List ℕ
 drawn v is = replies plainSupply (v .setup) (v .slots) (sentBy v is .sent)
 
 -- the answer to what is left of a field that found the slots ss
-abbrev pub answerSince : List Supply → wire.Rack Supply → Parsed → wire.Answer Supply
+abbrev pub answerSince : List Supply → wire.Rack Supply → Parsed → wire.CallResult Supply
 answerSince ss v (refuse n) = refused n
 answerSince ss v (accept n is) = done (moved plainSupply v (sentBy v is)) n (drawnSince plainSupply ss v (sentBy v is))
 

@@ -25,15 +25,15 @@ one-field v q s n t e =
     ap (afterField (fieldsFrom (length s) (fullAt 0) s) (fullAt 0) v 0 []) e ∙ rw (le-ltb (length t) 0 (omega arith), zero-add n) refl
 
 -- what an answer holds
-abbrev pub usedBy : wire.Answer Supply → ℕ
+abbrev pub usedBy : wire.CallResult Supply → ℕ
 usedBy (refused n) = 0
 usedBy (done q n t) = n
 
-abbrev pub codeBy : wire.Answer Supply → ℕ
+abbrev pub codeBy : wire.CallResult Supply → ℕ
 codeBy (refused n) = n
 codeBy (done q n t) = 0
 
-abbrev pub isDone : wire.Answer Supply → Bool
+abbrev pub isDone : wire.CallResult Supply → Bool
 isDone (refused n) = false
 isDone (done q n t) = true
 
@@ -117,7 +117,7 @@ pub record Spends (s : List ℕ) (used : ℕ) (R : Ran) : Type 0 where
 module _ (stop : ℕ → Bool) (s : List ℕ) where
   spends-step : (n : ℕ) (v : wire.Rack Supply) (used : ℕ) (said : List ℕ) → used ≤ length s → length s < used + suc n
       → ((q : wire.Rack Supply) (k : ℕ) (t : List ℕ) → k ≤ length s → length s < k + n → Spends s k (fieldsFrom n stop s q k t))
-      → (a : wire.Answer Supply) → callOf plainSupply v (fieldAt (drop used s)) ≡ a → Spends s used (afterField (fieldsFrom n stop s) stop v used said a)
+      → (a : wire.CallResult Supply) → callOf plainSupply v (fieldAt (drop used s)) ≡ a → Spends s used (afterField (fieldsFrom n stop s) stop v used said a)
   spends-step n v used said h f ih (refused c) e = record { grows = omega arith; within = h; some = λ z. absurd (refused-some v (drop used s) c e z) }
   spends-step n v used said h f ih (done q k t) e = byStop (stop (length (said ++ t)))
     where
@@ -141,7 +141,7 @@ module _ (s : List ℕ) where
   -- it does not count how many they may be, if they may be enough
   fuel-step : (n m : ℕ) (v : wire.Rack Supply) (used : ℕ) (said : List ℕ) → used ≤ length s → length s < used + suc n → length s < used + suc m
       → ((q : wire.Rack Supply) (k : ℕ) (t : List ℕ) → k ≤ length s → length s < k + n → length s < k + m → fieldsFrom n never s q k t ≡ fieldsFrom m never s q k t)
-      → (a : wire.Answer Supply) → callOf plainSupply v (fieldAt (drop used s)) ≡ a → afterField (fieldsFrom n never s) never v used said a ≡ afterField (fieldsFrom m never s) never v used said a
+      → (a : wire.CallResult Supply) → callOf plainSupply v (fieldAt (drop used s)) ≡ a → afterField (fieldsFrom n never s) never v used said a ≡ afterField (fieldsFrom m never s) never v used said a
   fuel-step n m v used said h f g ih (refused c) e = refl
   fuel-step n m v used said h f g ih (done q k t) e =
       let uses = accepted-uses v q (drop used s) k t e in
@@ -158,7 +158,7 @@ module _ (s : List ℕ) where
 
   ended-step : (n : ℕ) (v : wire.Rack Supply) (used : ℕ) (said : List ℕ) → used ≤ length s → length s < used + suc n
       → ((q : wire.Rack Supply) (k : ℕ) (t : List ℕ) → k ≤ length s → length s < k + n → Ended (fieldsFrom n never s q k t))
-      → (a : wire.Answer Supply) → callOf plainSupply v (fieldAt (drop used s)) ≡ a → Ended (afterField (fieldsFrom n never s) never v used said a)
+      → (a : wire.CallResult Supply) → callOf plainSupply v (fieldAt (drop used s)) ≡ a → Ended (afterField (fieldsFrom n never s) never v used said a)
   ended-step n v used said h f ih (refused c) e = e
   ended-step n v used said h f ih (done q k t) e =
       let uses = accepted-uses v q (drop used s) k t e in
@@ -174,7 +174,7 @@ module _ (s : List ℕ) where
 
   shift-step : (n a : ℕ) (x : List ℕ) (v : wire.Rack Supply) (used : ℕ) (said : List ℕ)
       → ((q : wire.Rack Supply) (k : ℕ) (t : List ℕ) → fieldsFrom n never s q (a + k) (x ++ t) ≡ shifted a x (fieldsFrom n never (drop a s) q k t))
-      → (c : wire.Answer Supply) → afterField (fieldsFrom n never s) never v (a + used) (x ++ said) c ≡ shifted a x (afterField (fieldsFrom n never (drop a s)) never v used said c)
+      → (c : wire.CallResult Supply) → afterField (fieldsFrom n never s) never v (a + used) (x ++ said) c ≡ shifted a x (afterField (fieldsFrom n never (drop a s)) never v used said c)
   shift-step n a x v used said ih (refused c) = refl
   shift-step n a x v used said ih (done q k t) = rw (add-assoc a used k, append-assoc x said t) (ih q (used + k) (said ++ t))
 

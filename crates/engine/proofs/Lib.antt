@@ -2,4 +2,4 @@ pub mod Spent
 pub mod Answers
 pub mod Stands
 pub mod Fields
-pub mod Turns
+pub mod Cycles

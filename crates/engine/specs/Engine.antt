@@ -32,7 +32,7 @@ abbrev pub ran : wire.Rack Supply → ℕ → List ℕ → ℕ → Ran
 ran v used said code = record { rack = v; used = used; said = said; code = code }
 
 -- a field behind those that were worked: refused, it ends them; else they go on, unless what they said by now is to stop them
-abbrev pub afterField : (wire.Rack Supply → ℕ → List ℕ → Ran) → (ℕ → Bool) → wire.Rack Supply → ℕ → List ℕ → wire.Answer Supply → Ran
+abbrev pub afterField : (wire.Rack Supply → ℕ → List ℕ → Ran) → (ℕ → Bool) → wire.Rack Supply → ℕ → List ℕ → wire.CallResult Supply → Ran
 afterField go stop v used said (refused n) = ran v used said n
 afterField go stop v used said (done q k t) = pick (stop (length (said ++ t))) (ran q (used + k) (said ++ t) 0) (go q (used + k) (said ++ t))
 
@@ -46,7 +46,7 @@ abbrev pub fieldsOn : (ℕ → Bool) → wire.Rack Supply → List ℕ → Ran
 fieldsOn stop v s = fieldsFrom (suc (length s)) stop s v 0 []
 
 -- THE CALLS that fields in turn are: one for each that was accepted
-abbrev pub callsAfter : (wire.Rack Supply → ℕ → List ℕ → List Call) → (ℕ → Bool) → List ℕ → ℕ → List ℕ → wire.Answer Supply → List Call
+abbrev pub callsAfter : (wire.Rack Supply → ℕ → List ℕ → List Call) → (ℕ → Bool) → List ℕ → ℕ → List ℕ → wire.CallResult Supply → List Call
 callsAfter go stop s used said (refused n) = []
 callsAfter go stop s used said (done q k t) = fieldAt (drop used s) ∷ pick (stop (length (said ++ t))) [] (go q (used + k) (said ++ t))
 

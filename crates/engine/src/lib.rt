@@ -1,3 +1,4 @@
+// Layer calls.
 // Field after field of lent bytes, worked piece by piece, the slots changed where they stand.
 ghost use Prim.Native.Nat.{_≤_, _+_};
 ghost use lib.ListN.{length};

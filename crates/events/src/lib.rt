@@ -1,3 +1,4 @@
+// Layer supply.
 // What LINES, keys and the knob do to a supply.
 ghost use mathlib.Core.Path.{_≡_};
 ghost use mathlib.Core.Bool.{true, false};

@@ -20,7 +20,7 @@ use Rattle.words.specs.Words.{findWord}
 use Rattle.parameters.specs.Parameters.{readAs, parameterOf}
 use Rattle.asks.specs.Words.{askedBy}
 use Rattle.asks.specs.Asked.{asksOf}
-use Rattle.command.specs.Lines.{rightSum, heardOf}
+use Rattle.command.specs.Lines.{rightChecksum, heardOf}
 use Rattle.protocol.specs.Sent.{obeyed}
 use Rattle.field.specs.Fields.{lengthFits, headerCode, valuesFit, pressOf, turnOf, actOf, readField}
 use Rattle.wire.specs.Wire.{Entry, field, line, parse}
@@ -43,11 +43,11 @@ shareAt a =
     field 2 (a ∷ 0 ∷ []) ∷ field 5 (a ∷ 156 ∷ 64 ∷ 19 ∷ 136 ∷ []) ∷ line (codes "FLT?") false ∷ []
 
 share-here : shareOf grammar (setupOf fittingList) here 6 ≡ shareAt 6
-unfolding shareAt fittingList here brought share.typed parse readField headerCode lengthFits valuesFit classOf heardOf asksOf rightSum askedBy parameterOf readAs findWord readNumber scaledValue wholeUnits wellFormed firstAt runValue allDigits readHex hexOf isHex
+unfolding shareAt fittingList here brought share.typed parse readField headerCode lengthFits valuesFit classOf heardOf asksOf rightChecksum askedBy parameterOf readAs findWord readNumber scaledValue wholeUnits wellFormed firstAt runValue allDigits readHex hexOf isHex
 share-here = refl
 
 share-there : shareOf grammar (setupOf listThere) there 9 ≡ shareAt 9
-unfolding shareAt listThere there brought share.typed parse readField headerCode lengthFits valuesFit classOf heardOf asksOf rightSum askedBy parameterOf readAs findWord readNumber scaledValue wholeUnits wellFormed firstAt runValue allDigits readHex hexOf isHex
+unfolding shareAt listThere there brought share.typed parse readField headerCode lengthFits valuesFit classOf heardOf asksOf rightChecksum askedBy parameterOf readAs findWord readNumber scaledValue wholeUnits wellFormed firstAt runValue allDigits readHex hexOf isHex
 share-there = refl
 
 addresses-only : map unaddressed (shareAt 6) ≡ map unaddressed (shareAt 9)
@@ -55,7 +55,7 @@ unfolding shareAt
 addresses-only = refl
 
 end-here : plain plainSupply 0 (shareAt 6) ≡ foldedBack
-unfolding shareAt foldedBack stepOf actOf pressOf turnOf heardOf asksOf rightSum askedBy parameterOf readAs findWord obeyed performed acted clearingQuery clearingOrder clearingAct codeOf sampled turnedOn disarmed pressed turned stepped nearestIn signedOf leastOf mostOf withSetting settingOf settled onOf linesClear inLimit fltOf fresh voltReading ampReading limitsOf table firstAt
+unfolding shareAt foldedBack stepOf actOf pressOf turnOf heardOf asksOf rightChecksum askedBy parameterOf readAs findWord obeyed performed acted clearingQuery clearingOrder clearingAct codeOf sampled turnedOn disarmed pressed turned stepped nearestIn signedOf leastOf mostOf withSetting settingOf settled onOf linesClear inLimit fltOf fresh voltReading ampReading limitsOf table firstAt
 end-here = refl
 
 -- the address in the first entry of a share

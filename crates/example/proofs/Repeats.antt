@@ -9,7 +9,7 @@ use Rattle.base.specs.Choice.{pick}
 use Rattle.wire.specs.Machine.{keep, flat}
 use Rattle.wire.specs.Wire.{Class, Delivery, one, line, Item, byte, event, Entry, Call, nobody, parse}
 use Rattle.wire.specs.declared.Setup.{Setup}
-use Rattle.wire.specs.Share.{typed, ended, items, stream, pieces, routes, selected, handed, brought, forSlot, shareOf}
+use Rattle.wire.specs.Share.{typed, ended, items, stream, arrivals, routes, selected, handed, brought, forSlot, shareOf}
 use Rattle.wire.proofs.Machine.{flat-append}
 use Rattle.supply.specs.declared.Supply.{Supply}
 use Rattle.supply.specs.Flt.{onOf}
@@ -19,7 +19,7 @@ use Rattle.plain.specs.Unaddressed.{unaddressed}
 use Rattle.slots.specs.declared.Rack.{Rack}
 use Rattle.rack.specs.Demand3.{supplyAt}
 use Rattle.rack.proofs.Isolation.{isolated-code}
-use Rattle.example.specs.Repeats.{SameSupply, SharesRepeat, UnaddressedSharesRepeat, elsewhere, concerns, NeighboursDoNotCount}
+use Rattle.example.specs.Repeats.{SameSupply, SharesRepeat, UnaddressedSharesRepeat, elsewhere, concerns, NeighboursMakeNoDifference}
 
 same : (m : ℕ) (r : Rack) (a : ℕ) (r₂ : Rack) (b : ℕ) → supplyAt r a ≡ supplyAt r₂ b → SameSupply m r a r₂ b
 same m r a r₂ b e =
@@ -44,7 +44,7 @@ shares-repeat u u₂ calls calls₂ r r₂ a b g g₂ n m e =
 module _ (u : Setup) (a : ℕ) where
   -- what slot a takes of a stream, where these bytes have come since the last CR and this slot is selected
   taken : List ℕ → ℕ → List Item → List Entry
-  taken bytes sel is = flat (forSlot u a) (routes grammar u sel (pieces bytes is))
+  taken bytes sel is = flat (forSlot u a) (routes grammar u sel (arrivals bytes is))
 
   -- two streams of which slot a takes the same, whatever came before
   abbrev Alike : List Item → List Item → Type 0
@@ -52,20 +52,20 @@ module _ (u : Setup) (a : ℕ) where
 
   -- a line with its CR: what it hands out comes before what follows
   line-on : (bytes : List ℕ) (sel : ℕ) (is js : List Item) → Alike is js
-      → flat (forSlot u a) (routes grammar u sel (ended (typed bytes) ∷ pieces [] is)) ≡ flat (forSlot u a) (routes grammar u sel (ended (typed bytes) ∷ pieces [] js))
+      → flat (forSlot u a) (routes grammar u sel (ended (typed bytes) ∷ arrivals [] is)) ≡ flat (forSlot u a) (routes grammar u sel (ended (typed bytes) ∷ arrivals [] js))
   unfolding taken
   line-on bytes sel is js h =
       let c : Class = grammar .classOf (typed bytes .kept) (typed bytes .spoiled) in
       let goes : List Delivery = handed u sel (line (typed bytes .kept) (typed bytes .spoiled)) c in
-      flat-append (forSlot u a) goes (routes grammar u (selected u sel c) (pieces [] is))
+      flat-append (forSlot u a) goes (routes grammar u (selected u sel c) (arrivals [] is))
       ∙ ap (λ (x : List Entry). flat (forSlot u a) goes ++ x) (h [] (selected u sel c))
-      ∙ sym (flat-append (forSlot u a) goes (routes grammar u (selected u sel c) (pieces [] js)))
+      ∙ sym (flat-append (forSlot u a) goes (routes grammar u (selected u sel c) (arrivals [] js)))
 
   byte-on : (b : ℕ) (is js : List Item) → Alike is js → Alike (byte b ∷ is) (byte b ∷ js)
   unfolding taken
   byte-on b is js h bytes sel = byEnd (eqb b 13)
     where
-      byEnd : (t : Bool) → flat (forSlot u a) (routes grammar u sel (pick t (ended (typed bytes) ∷ pieces [] is) (pieces (bytes ++ b ∷ []) is))) ≡ flat (forSlot u a) (routes grammar u sel (pick t (ended (typed bytes) ∷ pieces [] js) (pieces (bytes ++ b ∷ []) js)))
+      byEnd : (t : Bool) → flat (forSlot u a) (routes grammar u sel (pick t (ended (typed bytes) ∷ arrivals [] is) (arrivals (bytes ++ b ∷ []) is))) ≡ flat (forSlot u a) (routes grammar u sel (pick t (ended (typed bytes) ∷ arrivals [] js) (arrivals (bytes ++ b ∷ []) js)))
       byEnd true = line-on bytes sel is js h
       byEnd false = h (bytes ++ b ∷ []) sel
 
@@ -98,7 +98,7 @@ module _ (u : Setup) (a : ℕ) where
   unfolding brought taken
   own-share calls = own-stream calls [] nobody
 
-pub neighbours-do-not-count : NeighboursDoNotCount
-neighbours-do-not-count u calls calls₂ r r₂ a g g₂ n e =
+pub neighbours-make-no-difference : NeighboursMakeNoDifference
+neighbours-make-no-difference u calls calls₂ r r₂ a g g₂ n e =
     shares-repeat u u calls calls₂ r r₂ a a g g₂ n refl
     (own-share u a calls ∙ ap (λ (x : List Call). shareOf grammar u x a) e ∙ sym (own-share u a calls₂))

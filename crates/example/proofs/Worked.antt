@@ -22,7 +22,7 @@ use Rattle.words.specs.Words.{findWord}
 use Rattle.parameters.specs.Parameters.{readAs, parameterOf}
 use Rattle.asks.specs.Words.{askedBy}
 use Rattle.asks.specs.Asked.{asksOf}
-use Rattle.command.specs.Lines.{rightSum, heardOf}
+use Rattle.command.specs.Lines.{rightChecksum, heardOf}
 use Rattle.texts.specs.Texts.{codeText, wordText, answerText, ending}
 use Rattle.reply.specs.Obeying.{saidOf}
 use Rattle.protocol.specs.Sent.{obeyed, repliedTo}
@@ -41,24 +41,24 @@ use Rattle.example.specs.Worked.{fittingList, tripping, tripped, release
 
 -- the unfoldings: lists and fields; lines; the supply and its replies
 share-6 : shareOf grammar (setupOf fittingList) calls 6 ≡ shareTripping ++ shareTripped ++ shareReleased
-unfolding fittingList calls tripping tripped released shareTripping shareTripped shareReleased brought share.typed parse readField headerCode lengthFits valuesFit classOf heardOf asksOf rightSum askedBy parameterOf readAs findWord readNumber scaledValue wholeUnits wellFormed firstAt runValue allDigits readHex hexOf isHex checksum total
+unfolding fittingList calls tripping tripped released shareTripping shareTripped shareReleased brought share.typed parse readField headerCode lengthFits valuesFit classOf heardOf asksOf rightChecksum askedBy parameterOf readAs findWord readNumber scaledValue wholeUnits wellFormed firstAt runValue allDigits readHex hexOf isHex checksum total
 share-6 = refl
 
 -- up to the release
 share-6-tripped : shareOf grammar (setupOf fittingList) (tripping ++ tripped) 6 ≡ shareTripping ++ shareTripped
-unfolding fittingList calls tripping tripped released shareTripping shareTripped shareReleased brought share.typed parse readField headerCode lengthFits valuesFit classOf heardOf asksOf rightSum askedBy parameterOf readAs findWord readNumber scaledValue wholeUnits wellFormed firstAt runValue allDigits readHex hexOf isHex checksum total
+unfolding fittingList calls tripping tripped released shareTripping shareTripped shareReleased brought share.typed parse readField headerCode lengthFits valuesFit classOf heardOf asksOf rightChecksum askedBy parameterOf readAs findWord readNumber scaledValue wholeUnits wellFormed firstAt runValue allDigits readHex hexOf isHex checksum total
 share-6-tripped = refl
 
 share-alone : shareOf grammar (setupOf listAlone) alone 6 ≡ shareTripping ++ shareTripped ++ shareReleased
-unfolding listAlone alone shareTripping shareTripped shareReleased brought share.typed parse readField headerCode lengthFits valuesFit classOf heardOf asksOf rightSum askedBy parameterOf readAs findWord readNumber scaledValue wholeUnits wellFormed firstAt runValue allDigits readHex hexOf isHex checksum total
+unfolding listAlone alone shareTripping shareTripped shareReleased brought share.typed parse readField headerCode lengthFits valuesFit classOf heardOf asksOf rightChecksum askedBy parameterOf readAs findWord readNumber scaledValue wholeUnits wellFormed firstAt runValue allDigits readHex hexOf isHex checksum total
 share-alone = refl
 
 replies : answers (freshRack plainSupply (setupOf fittingList)) calls ≡ expected
-unfolding fittingList calls tripping tripped released expected callOf byteOn charOn parse readField headerCode lengthFits valuesFit classOf heardOf asksOf rightSum askedBy parameterOf readAs findWord readNumber scaledValue wholeUnits wellFormed firstAt runValue allDigits readHex hexOf isHex stepOf replyTo obeyed repliedTo saidOf codeText wordText answerText ending answerOf modeWord pressOf actOf performed acted clearingQuery clearingOrder clearingAct codeOf ordered reset outDone fldDone remote remoteBy orderCode setCode sampled linesChanged anyRises falls bitAt pressed disarmed turnedOn turned stepped nearestIn signedOf leastOf mostOf withSetting settingOf settled onOf linesClear inLimit fltOf fresh figure decimals shortest fixed checksum total hexPair voltReading ampReading limitsOf table
+unfolding fittingList calls tripping tripped released expected callOf byteOn charOn parse readField headerCode lengthFits valuesFit classOf heardOf asksOf rightChecksum askedBy parameterOf readAs findWord readNumber scaledValue wholeUnits wellFormed firstAt runValue allDigits readHex hexOf isHex stepOf replyTo obeyed repliedTo saidOf codeText wordText answerText ending answerOf modeWord pressOf actOf performed acted clearingQuery clearingOrder clearingAct codeOf ordered reset outDone fldDone remote remoteBy orderCode setCode sampled linesChanged anyRises falls bitAt pressed disarmed turnedOn turned stepped nearestIn signedOf leastOf mostOf withSetting settingOf settled onOf linesClear inLimit fltOf fresh figure decimals shortest fixed checksum total hexPair voltReading ampReading limitsOf table
 replies = refl
 
 end-6 : plain plainSupply 0 (shareTripping ++ shareTripped ++ shareReleased) ≡ endState
-unfolding shareTripping shareTripped shareReleased endState classOf heardOf asksOf rightSum askedBy parameterOf readAs findWord readNumber scaledValue wholeUnits wellFormed firstAt runValue allDigits readHex hexOf isHex stepOf replyTo obeyed repliedTo saidOf codeText wordText answerText ending answerOf modeWord pressOf actOf performed acted clearingQuery clearingOrder clearingAct codeOf ordered reset outDone fldDone remote remoteBy orderCode setCode sampled linesChanged anyRises falls bitAt pressed disarmed turnedOn turned stepped nearestIn signedOf leastOf mostOf withSetting settingOf settled onOf linesClear inLimit fltOf fresh figure decimals shortest fixed checksum total hexPair voltReading ampReading limitsOf table
+unfolding shareTripping shareTripped shareReleased endState classOf heardOf asksOf rightChecksum askedBy parameterOf readAs findWord readNumber scaledValue wholeUnits wellFormed firstAt runValue allDigits readHex hexOf isHex stepOf replyTo obeyed repliedTo saidOf codeText wordText answerText ending answerOf modeWord pressOf actOf performed acted clearingQuery clearingOrder clearingAct codeOf ordered reset outDone fldDone remote remoteBy orderCode setCode sampled linesChanged anyRises falls bitAt pressed disarmed turnedOn turned stepped nearestIn signedOf leastOf mostOf withSetting settingOf settled onOf linesClear inLimit fltOf fresh figure decimals shortest fixed checksum total hexPair voltReading ampReading limitsOf table
 end-6 = refl
 
 on-6 : onOf endState ≡ true
@@ -66,7 +66,7 @@ unfolding endState onOf fltOf
 on-6 = refl
 
 tripped-6 : TrippedBy plainSupply trips 0 ovp (shareTripping ++ shareTripped)
-unfolding shareTripping shareTripped releasesOf releases classOf heardOf asksOf rightSum askedBy parameterOf readAs findWord readNumber scaledValue wholeUnits wellFormed firstAt runValue allDigits readHex hexOf isHex stepOf replyTo obeyed repliedTo saidOf codeText wordText answerText ending answerOf modeWord pressOf actOf performed acted clearingQuery clearingOrder clearingAct codeOf ordered reset outDone fldDone remote remoteBy orderCode setCode sampled linesChanged anyRises falls bitAt pressed disarmed turnedOn turned stepped nearestIn signedOf leastOf mostOf withSetting settingOf settled onOf linesClear inLimit fltOf fresh figure decimals shortest fixed checksum total hexPair voltReading ampReading limitsOf table
+unfolding shareTripping shareTripped releasesOf releases classOf heardOf asksOf rightChecksum askedBy parameterOf readAs findWord readNumber scaledValue wholeUnits wellFormed firstAt runValue allDigits readHex hexOf isHex stepOf replyTo obeyed repliedTo saidOf codeText wordText answerText ending answerOf modeWord pressOf actOf performed acted clearingQuery clearingOrder clearingAct codeOf ordered reset outDone fldDone remote remoteBy orderCode setCode sampled linesChanged anyRises falls bitAt pressed disarmed turnedOn turned stepped nearestIn signedOf leastOf mostOf withSetting settingOf settled onOf linesClear inLimit fltOf fresh figure decimals shortest fixed checksum total hexPair voltReading ampReading limitsOf table
 tripped-6 =
     record {
       before =
@@ -80,11 +80,11 @@ tripped-6 =
     }
 
 share-9 : shareOf grammar (setupOf fittingList) (tripping ++ tripped) 9 ≡ shareNeighbour
-unfolding fittingList calls tripping tripped released shareNeighbour brought share.typed parse readField headerCode lengthFits valuesFit classOf heardOf asksOf rightSum askedBy parameterOf readAs findWord readNumber scaledValue wholeUnits wellFormed firstAt runValue allDigits readHex hexOf isHex checksum total
+unfolding fittingList calls tripping tripped released shareNeighbour brought share.typed parse readField headerCode lengthFits valuesFit classOf heardOf asksOf rightChecksum askedBy parameterOf readAs findWord readNumber scaledValue wholeUnits wellFormed firstAt runValue allDigits readHex hexOf isHex checksum total
 share-9 = refl
 
 end-9 : (onOf (plain plainSupply 3 shareNeighbour) ≡ true) × (plain plainSupply 3 shareNeighbour .pv ≡ 53000)
-unfolding shareNeighbour classOf heardOf asksOf rightSum askedBy parameterOf readAs findWord readNumber scaledValue wholeUnits wellFormed firstAt runValue allDigits readHex hexOf isHex stepOf replyTo obeyed repliedTo saidOf codeText wordText answerText ending answerOf modeWord pressOf actOf performed acted clearingQuery clearingOrder clearingAct codeOf ordered reset outDone fldDone remote remoteBy orderCode setCode sampled linesChanged anyRises falls bitAt pressed disarmed turnedOn turned stepped nearestIn signedOf leastOf mostOf withSetting settingOf settled onOf linesClear inLimit fltOf fresh figure decimals shortest fixed checksum total hexPair voltReading ampReading limitsOf table
+unfolding shareNeighbour classOf heardOf asksOf rightChecksum askedBy parameterOf readAs findWord readNumber scaledValue wholeUnits wellFormed firstAt runValue allDigits readHex hexOf isHex stepOf replyTo obeyed repliedTo saidOf codeText wordText answerText ending answerOf modeWord pressOf actOf performed acted clearingQuery clearingOrder clearingAct codeOf ordered reset outDone fldDone remote remoteBy orderCode setCode sampled linesChanged anyRises falls bitAt pressed disarmed turnedOn turned stepped nearestIn signedOf leastOf mostOf withSetting settingOf settled onOf linesClear inLimit fltOf fresh figure decimals shortest fixed checksum total hexPair voltReading ampReading limitsOf table
 end-9 = (refl, refl)
 
 pub worked-out : WorkedOut

@@ -55,8 +55,8 @@ concerns u a c = not (elsewhere a (items (parse grammar u c)))
 
 -- and the neighbours' fields alone: whatever fields of tags 2 to 5 went to other slots, and whatever was refused, at any places;
 -- the other calls are the same to the byte, the lengths of their buffers included
-abbrev pub NeighboursDoNotCount : Type 0
-NeighboursDoNotCount =
+abbrev pub NeighboursMakeNoDifference : Type 0
+NeighboursMakeNoDifference =
     (u : Setup) (calls calls₂ : List Call) (r r₂ : Rack) (a : ℕ)
     → Run u calls r → Run u calls₂ r₂
     → (modelAt u a ≡ 255 → ⊥)

@@ -8,7 +8,7 @@ use lib.ListN.{length, replicate}
 use Rattle.base.specs.Text.{codes}
 use Rattle.wire.specs.Wire.{Entry, field, line, Call}
 use Rattle.wire.specs.Share.{shareOf}
-use Rattle.wire.specs.Rack.{Answer, refused, done, callOf, after, freshRack}
+use Rattle.wire.specs.Rack.{CallResult, refused, done, callOf, after, freshRack}
 use Rattle.wire.specs.Rack as wire
 use Rattle.supply.specs.declared.Supply.{Supply}
 use Rattle.supply.specs.Flt.{onOf}
@@ -43,7 +43,7 @@ tripping =
 
 -- tripped, and no release: OUT 0; LINES with a bit that there is not, SO rising, an OUT 1 that it forbids, SO falling with
 -- auto start off; the OUTPUT key in remote. A sample for an empty slot, and the neighbour's lines: among them a global and an
--- ADR in error, which are nobody's; a global that the neighbour takes and slot 6 refuses; and one with a wrong sum, which is
+-- ADR in error, which are nobody's; a global that the neighbour takes and slot 6 refuses; and one with a wrong checksum, which is
 -- the neighbour's alone
 unfoldable pub tripped : List Call
 tripped =
@@ -52,7 +52,7 @@ tripped =
     serial "ADR 9\rPV 10\r" ∷ serial "GPV x\rADR 31\r" ∷ serial "OUT 1\rGPV 5.3\r" ∷ sample 9 20000 0 ∷
     serial "GPV 6$00\rPV?\r" ∷ []
 
--- the release; a query with its sum; the events enabled, once; and LOCAL and FOLD on the panel
+-- the release; a query with its checksum; the events enabled, once; and LOCAL and FOLD on the panel
 unfoldable pub released : List Call
 released =
     serial "ADR 6\rOUT 1\r" ∷ serial "FLT?$25\rPV?\r" ∷ serial "FEVE?\rFEVE?\r" ∷
@@ -77,7 +77,7 @@ pub data Came : Type 0 where
   no : ℕ → Came
   yes : ℕ → List ℕ → Came
 
-abbrev pub cameOf : Answer Supply → Came
+abbrev pub cameOf : CallResult Supply → Came
 cameOf (refused n) = no n
 cameOf (done r used t) = yes used t
 

@@ -1,3 +1,4 @@
+// Layer rack.
 // A field's tag, length, payload and values: the parts, or a refusal, with no rack in sight.
 ghost use mathlib.Core.Path.{_≡_};
 ghost use Prim.Native.Nat.{_+_, _<_, _≤_};

@@ -1,3 +1,4 @@
+// Layer ground.
 // Figures on the serial line: digits and numbers with decimals, read from bytes.
 ghost use mathlib.Core.Path.{_≡_};
 ghost use Prim.Native.Nat.{_+_, _-_, _*_, _/_, _^_, _<_, _≤_};

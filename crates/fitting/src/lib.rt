@@ -1,3 +1,4 @@
+// Layer calls.
 // The parts of a fitting list in code: its bytes judged, its models, and the fresh rack that they make.
 ghost use mathlib.Core.Path.{_≡_};
 ghost use lib.ListN.{length};

@@ -1,3 +1,4 @@
+// Layer rack.
 // A global in code: an order to every fitted slot, each supply judging for itself.
 ghost use mathlib.Core.Path.{_≡_};
 ghost use Rattle.base.specs.Lists.{eachTo};

@@ -85,7 +85,7 @@ module _ (t : List ℕ) where
   unfolding readHex
   hex-pick h b e = rw (eq-eqb _ 2 h, e) refl
 
--- the sum, at the code's index i
+-- the checksum, at the code's index i
 pub total-step : (s : List ℕ) (i : ℕ) → i < length s → total (drop i s) ≡ getD s i 0 + total (drop (i + 1) s)
 unfolding total
 total-step s i h = rw (drop-cons s i 0 h, add-one) refl

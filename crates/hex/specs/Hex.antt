@@ -31,7 +31,7 @@ hexDigit n = pick (ltb n 10) (48 + n) (55 + n)
 unfoldable pub hexPair : ℕ → List ℕ
 hexPair b = hexDigit (b / 16) ∷ hexDigit (b % 16) ∷ []
 
--- the sum of the bytes of s, and the same modulo 256
+-- the sum of the bytes of s, and their checksum, the same modulo 256
 unfoldable pub total : List ℕ → ℕ
 total [] = 0
 total (b ∷ bs) = b + total bs

@@ -1,4 +1,5 @@
-// Bytes as hexadecimal digits, read and placed into a lent buffer, and the sum of a line.
+// Layer ground.
+// Bytes as hexadecimal digits, read and placed into a lent buffer, and the checksum of a line.
 ghost use mathlib.Core.Path.{_≡_};
 ghost use Prim.Native.Nat.{_<_};
 ghost use Rattle.base.specs.Put.{Put};
@@ -43,8 +44,8 @@ pub fn read_hex(s: &[u8]) -> Number
     }
 }
 
-// The sum of the bytes of s, modulo 256.
-pub fn sum(s: &[u8]) -> u8
+// The checksum of s: the sum of its bytes modulo 256.
+pub fn checksum(s: &[u8]) -> u8
     ensures { λ r. ⌜ r ≡ checksum (now (s .entry)) ⌝ }
 {
     let mut t: u64 = 0;

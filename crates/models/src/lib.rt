@@ -1,3 +1,4 @@
+// Layer supply.
 // The twelve models of the supply with five limits each, and readings by model number.
 ghost use mathlib.Core.Path.{_≡_};
 ghost use Prim.Native.Nat.{_*_, _/_};

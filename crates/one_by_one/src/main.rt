@@ -1,3 +1,4 @@
+// Layer outside.
 // The controller's input worked by the two functions that customers call: `fit` takes the fitting list, and each field is one `call`
 // with a reply buffer of the least size. It prints what the controller prints. Each field is tried first with a buffer that is a byte
 // too short: where that is not refused with 1, or leaves a trace, `wrong` is printed, then `refused 1`, and the program ends.

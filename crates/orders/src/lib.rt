@@ -1,3 +1,4 @@
+// Layer supply.
 // What an order does to a supply: its code, and where it is accepted what it changes.
 ghost use mathlib.Core.Path.{_≡_};
 ghost use lib.Dec.{eqb};

@@ -1,3 +1,4 @@
+// Layer line.
 // The parameter of a line: absent, malformed, or a value of the kind that its word takes.
 ghost use mathlib.Core.Path.{_≡_};
 ghost use Prim.Native.Nat.{_<_, _≤_};

@@ -32,7 +32,7 @@ char-due w x =
 pub typing-none : (l : Line) (p : List ℕ) → Short l → Typing l p 0 l
 typing-none l p h = record { small = h; selects = refl; scans = λ γ u. refl; grows = omega arith }
 
-pub typing-more : (l m r : Line) (p : List ℕ) (i : ℕ) → i < length p → eqb (getD p i 0) 13 ≡ false → Typing l p i m → (Short m → serial.Typed m (getD p i 0) r) → Typing l p (i + 1) r
+pub typing-more : (l m r : Line) (p : List ℕ) (i : ℕ) → i < length p → eqb (getD p i 0) 13 ≡ false → Typing l p i m → (Short m → serial.CharTaken m (getD p i 0) r) → Typing l p (i + 1) r
 typing-more l m r p i h n t d =
     let x : ℕ = getD p i 0 in
     let is : wireOf r ≡ charOn (wireOf m) x = d (t .small) .is in

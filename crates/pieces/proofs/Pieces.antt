@@ -34,7 +34,7 @@ use Rattle.slots.specs.declared.Ended.{Ended}
 use Rattle.slots.specs.View.{rackIs, Moves, Fair, clearedTo, EndsLine, endedBy}
 use Rattle.slots.proofs.Runs.{moves-then, fair-then}
 use Rattle.slots.proofs.Fairness.{ended-fair}
-use Rattle.pieces.specs.Pieces.{Typing, Chars, FeedDoes, After, Does, LineDoes, refusedAs, sampleModel, isSerial, sampleAs, PieceDoes}
+use Rattle.pieces.specs.Pieces.{Typing, CharsTaken, FeedDoes, After, Does, LineDoes, refusedAs, sampleModel, isSerial, sampleAs, PieceDoes}
 
 pub feed-within : (p : List ℕ) (i r : ℕ) → FeedDoes p i r → i ≤ length p → (i ≤ r) × (r ≤ length p)
 feed-within p i r (inl e) h = (omega (arith, e .0), omega (arith, e .0, h))
@@ -56,7 +56,7 @@ module _ (u : Setup) (l : Line) (p : List ℕ) (i : ℕ) (h : i < length p) (lf 
       let g = d ss k there reach short wide small in
       record { moves = rw feed-sent (g .moves); fair = record { fair = rw feed-sent (omega (arith, g .fair .fair)) } }
 
-module _ (u : Setup) (l : Line) (s : Supply) (p : List ℕ) (head : ℕ) (b : List ℕ) (at : ℕ) (j : ℕ) (m : Line) (d : Chars l p j m) where
+module _ (u : Setup) (l : Line) (s : Supply) (p : List ℕ) (head : ℕ) (b : List ℕ) (at : ℕ) (j : ℕ) (m : Line) (d : CharsTaken l p j m) where
   -- characters move nothing but the line
   typed-moves : (ss : List Supply) → Typing l p j m → Moves (rackIs ss l u) (quiet (wireOf m)) (rackIs ss m u) b at at b
   typed-moves ss t = record { small = t .small; view = refl; said = put-none b at }

@@ -25,7 +25,7 @@ use Rattle.serial.specs.View.{lineOf, wireOf, Short}
 use Rattle.plain.specs.Plain.{grammar}
 use Rattle.slots.specs.declared.Rack.{Rack}
 use Rattle.slots.specs.View.{rackIs, due, Moves, Fair}
-use Rattle.pieces.specs.declared.Typed.{Typed}
+use Rattle.pieces.specs.declared.Advance.{Advance}
 use Rattle.pieces.specs.declared.Piece.{Piece}
 use Rattle.pieces.specs.declared.Evented.{Evented}
 
@@ -37,15 +37,15 @@ pub record Typing (l : Line) (p : List ℕ) (n : ℕ) (r : Line) : Type 0 where
   pub grows : due (wireOf r) ≤ due (wireOf l) + rate * n
 
 -- all bytes before the first CR
-pub record Chars (l : Line) (p : List ℕ) (n : ℕ) (r : Line) : Type 0 where
+pub record CharsTaken (l : Line) (p : List ℕ) (n : ℕ) (r : Line) : Type 0 where
   pub within : n ≤ length p
   pub stops : n < length p → getD p n 0 ≡ 13
   pub typed : length (l .kept) ≡ 64 → Short l → Typing l p n r
 
 -- the same in the code, whatever slot is selected
-pub record CharsDo (kept : List ℕ) (count : ℕ) (spoiled : Bool) (p kept′ : List ℕ) (r : Typed) : Type 0 where
+pub record CharsDo (kept : List ℕ) (count : ℕ) (spoiled : Bool) (p kept′ : List ℕ) (r : Advance) : Type 0 where
   pub same : length kept′ ≡ length kept
-  pub chars : (selected : ℕ) → Chars (lineOf kept count spoiled selected) p (r .next) (lineOf kept′ (r .count) (r .spoiled) selected)
+  pub chars : (selected : ℕ) → CharsTaken (lineOf kept count spoiled selected) p (r .next) (lineOf kept′ (r .count) (r .spoiled) selected)
 
 -- an LF that stands at index i is passed, and nothing else
 abbrev pub FeedDoes : List ℕ → ℕ → ℕ → Type 0

@@ -1,3 +1,4 @@
+// Layer calls.
 // A piece of a field: a field of tags 2 to 5, or serial bytes up to the end of a line or of their field. It needs the line and one
 // supply, and no rack.
 ghost use mathlib.Core.Path.{_≡_};
@@ -17,7 +18,7 @@ use supply::Supply;
 use wire::Setup;
 
 // The line after the characters before a CR, or before the end: how many it keeps and whether it is spoiled; and the index of that CR or end.
-struct Typed {
+struct Advance {
     count: usize,
     spoiled: bool,
     next: usize,
@@ -95,7 +96,7 @@ fn line_ended(e: Ended, used: usize, left: usize) -> Piece
 }
 
 // The characters of a line, up to its CR or the end.
-fn take_chars(kept: &mut [u8; 64], n: usize, was: bool, p: &[u8]) -> Typed
+fn take_chars(kept: &mut [u8; 64], n: usize, was: bool, p: &[u8]) -> Advance
     ensures { λ r. ⌜ CharsDo (now (kept .entry)) n was (now (p .entry)) (now (kept .exit)) r ⌝ }
 {
     let mut count = n;
@@ -107,7 +108,7 @@ fn take_chars(kept: &mut [u8; 64], n: usize, was: bool, p: &[u8]) -> Typed
         spoiled = c.spoiled;
         i += 1;
     }
-    Typed {
+    Advance {
         count,
         spoiled,
         next: i,

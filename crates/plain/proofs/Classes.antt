@@ -24,12 +24,12 @@ use Rattle.asks.specs.Words.{OrderWord, set, ovm, out, fld, ast, rmt, fena, cls
 use Rattle.asks.specs.Words.{Command, toOne, ofOne, toAll, selecting, unknownWord, kindOf, asksWith, failsWith}
 use Rattle.asks.specs.Words.{commands, commandOf, askedBy}
 use Rattle.asks.specs.Asked.{wordOf}
-use Rattle.command.specs.Lines.{hasSum, rightSum, heardOf}
+use Rattle.command.specs.Lines.{hasChecksum, rightChecksum, heardOf}
 use Rattle.texts.specs.Texts.{codeText, replyOf}
 use Rattle.protocol.specs.Sent.{repliedTo}
 use Rattle.protocol.specs.Verdicts.{Stage, firstOf, bodyOf, wordIn, commandIn, givenIn, isUnknown, isAbsent, isMalformed, isBeyond}
-use Rattle.protocol.specs.Verdicts.{isWronglySummed, drawsSum, valueOf}
-use Rattle.protocol.proofs.Verdicts.{verdicts, summed-when}
+use Rattle.protocol.specs.Verdicts.{hasWrongChecksum, drawsChecksum, valueOf}
+use Rattle.protocol.proofs.Verdicts.{verdicts, checksummed-when}
 use Rattle.plain.specs.Plain.{classBy, classOf}
 use Rattle.plain.specs.Classes.{adrWord, globalWords, classFor, Classes}
 use Rattle.plain.proofs.Heard.{heard-has}
@@ -108,10 +108,10 @@ module _ (kept : List ℕ) where
   unfolding classOf heardOf
   spoiled-class = refl
 
-  unsummed-class : (spoiled : Bool) → hasSum kept ≡ true → rightSum kept ≡ false → classOf kept spoiled ≡ other
+  wrong-checksum-class : (spoiled : Bool) → hasChecksum kept ≡ true → rightChecksum kept ≡ false → classOf kept spoiled ≡ other
   unfolding classOf heardOf
-  unsummed-class true h r = refl
-  unsummed-class false h r = rw (h, r) refl
+  wrong-checksum-class true h r = refl
+  wrong-checksum-class false h r = rw (h, r) refl
 
 -- ADR is the one word that selects, and the four globals are those that go to all
 abbrev selects : Command → Bool
@@ -238,7 +238,7 @@ module _ (x : List ℕ) (s : Bool) where
   classed selecting true h = absurd (true≢false (ap selects (h refl)))
   classed selecting false h = to-select (isAbsent address x) (isMalformed address x) (isBeyond address x)
 
-  -- a line that is spoiled or wrongly summed goes to the slot selected, whatever its word
+  -- a line that is spoiled or wrongly checksummed goes to the slot selected, whatever its word
   any-classed : (spoiled wrong e : Bool) (k : Command) → Classed k e
       → classBy (firstOf ((spoiled, Error c01) ∷ (wrong, Error c04) ∷ laterStages e k) (asksThen k)) s
       ≡ pick ((not spoiled && not wrong) && selects k) (adrWith k)
@@ -252,11 +252,11 @@ pub class-for : (kept : List ℕ) (spoiled : Bool) → classOf kept spoiled ≡ 
 unfolding classOf
 class-for kept spoiled =
     let x = givenIn kept in
-    let s = drawsSum kept spoiled in
+    let s = drawsChecksum kept spoiled in
     let k = commandIn kept in
     let e = isEmpty (bodyOf kept) in
-    rw (verdicts kept spoiled, summed-when kept spoiled, ← adr-word (wordIn kept), ← global-word (wordIn kept))
-    (any-classed x s spoiled (isWronglySummed kept) e k (classed x s k e (empty-word (bodyOf kept))))
+    rw (verdicts kept spoiled, checksummed-when kept spoiled, ← adr-word (wordIn kept), ← global-word (wordIn kept))
+    (any-classed x s spoiled (hasWrongChecksum kept) e k (classed x s k e (empty-word (bodyOf kept))))
 
 -- EACH PART
 pub classes : (kept : List ℕ) (spoiled : Bool) → Classes kept spoiled
@@ -265,8 +265,8 @@ classes kept spoiled =
     record {
       class-is = class-for kept spoiled;
       spoiled-other = λ e. rw e (spoiled-class kept);
-      unsummed-other = unsummed-class kept spoiled;
-      select-inside = λ n t e. rw (ap addressOf e) at (class-inside (heardOf kept spoiled .asks) (heardOf kept spoiled .summed) (heard-inside kept spoiled));
-      select-reply = λ n t e m s. sym (ap bytesOf e) ∙ own-reply m s (heardOf kept spoiled .summed) (heardOf kept spoiled .asks) (ap isOwn e);
-      faulty-reply = λ t e m s. sym (ap bytesOf e) ∙ own-reply m s (heardOf kept spoiled .summed) (heardOf kept spoiled .asks) (ap isOwn e);
+      wrong-checksum-other = wrong-checksum-class kept spoiled;
+      select-inside = λ n t e. rw (ap addressOf e) at (class-inside (heardOf kept spoiled .asks) (heardOf kept spoiled .checksummed) (heard-inside kept spoiled));
+      select-reply = λ n t e m s. sym (ap bytesOf e) ∙ own-reply m s (heardOf kept spoiled .checksummed) (heardOf kept spoiled .asks) (ap isOwn e);
+      faulty-reply = λ t e m s. sym (ap bytesOf e) ∙ own-reply m s (heardOf kept spoiled .checksummed) (heardOf kept spoiled .asks) (ap isOwn e);
     }

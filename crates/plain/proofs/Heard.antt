@@ -11,7 +11,7 @@ use Rattle.asks.specs.declared.Asks.the-variants.{One, Error}
 use Rattle.parameters.specs.Parameters.{c01, c04, isEmpty}
 use Rattle.asks.specs.Words.{Command, commandOf, askedBy}
 use Rattle.asks.specs.Asked.{wordOf, parameterText, asksOf}
-use Rattle.command.specs.Lines.{hasSum, rightSum, summedPart, heardAs, heardOf}
+use Rattle.command.specs.Lines.{hasChecksum, rightChecksum, beforeChecksum, heardAs, heardOf}
 
 module _ (P : Asks → Type 0) (empty : P (One Nothing)) (error : (c : ℕ) → P (Error c))
     (word : (k : Command) (x : List ℕ) → P (askedBy k x)) where
@@ -24,12 +24,12 @@ module _ (P : Asks → Type 0) (empty : P (One Nothing)) (error : (c : ℕ) → 
   pub heard-has : (kept : List ℕ) (spoiled : Bool) → P (heardOf kept spoiled .asks)
   unfolding heardOf
   heard-has kept true = error c01
-  heard-has kept false = bySum (hasSum kept) (rightSum kept)
+  heard-has kept false = byChecksum (hasChecksum kept) (rightChecksum kept)
     where
-      bySum : (h r : Bool)
+      byChecksum : (h r : Bool)
           → P (pick h
-          (pick r (heardAs (asksOf (summedPart kept)) true) (heardAs (Error c04) false))
+          (pick r (heardAs (asksOf (beforeChecksum kept)) true) (heardAs (Error c04) false))
           (heardAs (asksOf kept) false) .asks)
-      bySum true true = asks-have (summedPart kept)
-      bySum true false = error c04
-      bySum false r = asks-have kept
+      byChecksum true true = asks-have (beforeChecksum kept)
+      byChecksum true false = error c04
+      byChecksum false r = asks-have kept

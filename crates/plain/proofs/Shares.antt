@@ -8,7 +8,7 @@ use Rattle.base.specs.Choice.{pick}
 use Rattle.wire.specs.declared.Setup.{Setup}
 use Rattle.wire.specs.Machine.{given, flat}
 use Rattle.wire.specs.Wire.{Entry, line, one, Class, select, faulty, global, other, Call, nobody, fitted}
-use Rattle.wire.specs.Share.{Piece, ended, came, stream, pieces, handed, selected, routes, brought, forSlot, shareOf}
+use Rattle.wire.specs.Share.{Arrival, ended, came, stream, arrivals, handed, selected, routes, brought, forSlot, shareOf}
 use Rattle.wire.proofs.Machine.{flat-append}
 use Rattle.plain.specs.Plain.{classOf, grammar}
 use Rattle.plain.specs.Classes.{isAdr, isGlobal, isC02, isC03, isC05, addressIn, classFor}
@@ -65,7 +65,7 @@ module _ (u : Setup) where
       byTests n t₂ t₃ t₅ t₀ false true false false c5 = refl
       byTests n t₂ t₃ t₅ t₀ false false c2 c3 c5 = refl
 
-  entries-routed : (a sel : ℕ) (ps : List Piece) → flat (forSlot u a) (routes grammar u sel ps) ≡ entriesOf u a sel ps
+  entries-routed : (a sel : ℕ) (ps : List Arrival) → flat (forSlot u a) (routes grammar u sel ps) ≡ entriesOf u a sel ps
   entries-routed a sel [] = refl
   entries-routed a sel (came b e ∷ ps) = ap (λ (es : List Entry). given (eqb a b) e ++ es) (entries-routed a sel ps)
   entries-routed a sel (ended t ∷ ps) =
@@ -84,4 +84,4 @@ module _ (u : Setup) where
   -- THE SHARE, by the characters of its lines
   pub share-by-characters : (calls : List Call) (a : ℕ) → shareOf grammar u calls a ≡ shareFor u calls a
   unfolding brought
-  share-by-characters calls a = entries-routed a nobody (pieces [] (stream grammar u calls))
+  share-by-characters calls a = entries-routed a nobody (arrivals [] (stream grammar u calls))

@@ -11,16 +11,16 @@ use Rattle.wire.specs.Wire.{Class, select, faulty, global, other}
 use Rattle.supply.specs.declared.Supply.{Supply}
 use Rattle.supply.specs.State.{c05}
 use Rattle.parameters.specs.Parameters.{c02, c03}
-use Rattle.command.specs.Lines.{hasSum, rightSum, heardOf}
+use Rattle.command.specs.Lines.{hasChecksum, rightChecksum, heardOf}
 use Rattle.texts.specs.Texts.{codeText, replyOf}
 use Rattle.protocol.specs.Sent.{repliedTo}
 use Rattle.protocol.specs.Verdicts.{wordIn, kindIn, givenIn, isAbsent, isMalformed, isBeyond}
-use Rattle.protocol.specs.Verdicts.{isWronglySummed, drawsSum, valueOf}
+use Rattle.protocol.specs.Verdicts.{hasWrongChecksum, drawsChecksum, valueOf}
 use Rattle.plain.specs.Plain.{classOf}
 
 -- a spoiled line, and one whose sum is wrong, counts as no ADR and no global, whatever its word
 abbrev pub counts : List ℕ → Bool → Bool
-counts kept spoiled = not spoiled && not (isWronglySummed kept)
+counts kept spoiled = not spoiled && not (hasWrongChecksum kept)
 
 abbrev pub adrWord : List (List ℕ)
 adrWord = codes "ADR" ∷ []
@@ -48,9 +48,9 @@ addressIn kept = valueOf (kindIn kept) (givenIn kept)
 abbrev pub isC05 : List ℕ → Bool
 isC05 kept = isBeyond (kindIn kept) (givenIn kept)
 
--- a code's reply, with a sum where the line draws one; code 0 is OK
+-- a code's reply, with a checksum where the line draws one; code 0 is OK
 abbrev pub says : ℕ → List ℕ → Bool → List ℕ
-says c kept spoiled = replyOf (drawsSum kept spoiled) (codeText c)
+says c kept spoiled = replyOf (drawsChecksum kept spoiled) (codeText c)
 
 -- an ADR selects its address, and OK is that slot's reply; in error it is one that no supply takes, and draws its code
 abbrev pub adrClass : List ℕ → Bool → Class
@@ -62,7 +62,7 @@ adrClass kept spoiled =
 
 -- EVERY LINE: an ADR; a global, which no supply takes where it is ill-formed, and which then draws nothing; or any other
 -- line, which goes to the slot selected: the empty line, each order and query of one supply, right or in error, the unknown
--- word, and whatever is spoiled or wrongly summed
+-- word, and whatever is spoiled or wrongly checksummed
 abbrev pub classFor : List ℕ → Bool → Class
 classFor kept spoiled =
     pick (isAdr kept spoiled) (adrClass kept spoiled)
@@ -71,11 +71,11 @@ classFor kept spoiled =
 
 pub record Classes (kept : List ℕ) (spoiled : Bool) : Type 0 where
   pub class-is : classOf kept spoiled ≡ classFor kept spoiled
-  -- a spoiled line, and one with a wrong sum, is neither an ADR nor a global
+  -- a spoiled line, and one with a wrong checksum, is neither an ADR nor a global
   pub spoiled-other : spoiled ≡ true → classOf kept spoiled ≡ other
-  pub unsummed-other : hasSum kept ≡ true → rightSum kept ≡ false → classOf kept spoiled ≡ other
-  -- an ADR selects an address of the rack; its reply is the one that a supply's reply function gives, with its sum
+  pub wrong-checksum-other : hasChecksum kept ≡ true → rightChecksum kept ≡ false → classOf kept spoiled ≡ other
+  -- an ADR selects an address of the rack; its reply is the one that a supply's reply function gives, with its checksum
   pub select-inside : (n : ℕ) (t : List ℕ) → classOf kept spoiled ≡ select n t → n ≤ 30
-  pub select-reply : (n : ℕ) (t : List ℕ) → classOf kept spoiled ≡ select n t → (m : ℕ) (s : Supply) → t ≡ repliedTo m s (heardOf kept spoiled .asks) (heardOf kept spoiled .summed)
-  -- an ADR in error draws its code, with its sum; a global in error draws nothing
-  pub faulty-reply : (t : List ℕ) → classOf kept spoiled ≡ faulty t → (m : ℕ) (s : Supply) → t ≡ repliedTo m s (heardOf kept spoiled .asks) (heardOf kept spoiled .summed)
+  pub select-reply : (n : ℕ) (t : List ℕ) → classOf kept spoiled ≡ select n t → (m : ℕ) (s : Supply) → t ≡ repliedTo m s (heardOf kept spoiled .asks) (heardOf kept spoiled .checksummed)
+  -- an ADR in error draws its code, with its checksum; a global in error draws nothing
+  pub faulty-reply : (t : List ℕ) → classOf kept spoiled ≡ faulty t → (m : ℕ) (s : Supply) → t ≡ repliedTo m s (heardOf kept spoiled .asks) (heardOf kept spoiled .checksummed)

@@ -26,19 +26,19 @@ stepOf m s (line kept spoiled) = obeyed m s (heardOf kept spoiled .asks)
 -- and what it draws; a field of tags 2 to 5 draws nothing
 unfoldable pub replyTo : ℕ → Supply → Entry → List ℕ
 replyTo m s (field t p) = []
-replyTo m s (line kept spoiled) = repliedTo m s (heardOf kept spoiled .asks) (heardOf kept spoiled .summed)
+replyTo m s (line kept spoiled) = repliedTo m s (heardOf kept spoiled .asks) (heardOf kept spoiled .checksummed)
 
--- the class of a line by what it asks; the line's own replies carry its sum
+-- the class of a line by what it asks; the line's own replies carry its checksum
 abbrev pub classBy : Asks → Bool → Class
-classBy (Select n) summed = select n (replyOf summed (codeText 0))
-classBy (BadSelect c) summed = faulty (replyOf summed (codeText c))
-classBy (Everyone o) summed = global
-classBy Nobody summed = faulty []
-classBy (One a) summed = other
-classBy (Error c) summed = other
+classBy (Select n) checksummed = select n (replyOf checksummed (codeText 0))
+classBy (BadSelect c) checksummed = faulty (replyOf checksummed (codeText c))
+classBy (Everyone o) checksummed = global
+classBy Nobody checksummed = faulty []
+classBy (One a) checksummed = other
+classBy (Error c) checksummed = other
 
 unfoldable pub classOf : List ℕ → Bool → Class
-classOf kept spoiled = classBy (heardOf kept spoiled .asks) (heardOf kept spoiled .summed)
+classOf kept spoiled = classBy (heardOf kept spoiled .asks) (heardOf kept spoiled .checksummed)
 
 -- the least reply buffer that a call takes
 abbrev pub leastReply : ℕ

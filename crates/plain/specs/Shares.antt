@@ -8,7 +8,7 @@ use Rattle.base.specs.Choice.{pick}
 use Rattle.wire.specs.declared.Setup.{Setup}
 use Rattle.wire.specs.Machine.{given}
 use Rattle.wire.specs.Wire.{Entry, line, Call, nobody, fitted}
-use Rattle.wire.specs.Share.{Piece, ended, came, stream, pieces}
+use Rattle.wire.specs.Share.{Arrival, ended, came, stream, arrivals}
 use Rattle.plain.specs.Plain.{grammar}
 use Rattle.plain.specs.Classes.{isAdr, isGlobal, isC02, isC03, isC05, addressIn}
 
@@ -29,7 +29,7 @@ module _ (u : Setup) where
       sel
 
   -- the entries of an address among the lines and other fields of a stream, in order
-  abbrev pub entriesOf : ℕ → ℕ → List Piece → List Entry
+  abbrev pub entriesOf : ℕ → ℕ → List Arrival → List Entry
   entriesOf a sel [] = []
   entriesOf a sel (came b e ∷ ps) = given (eqb a b) e ++ entriesOf a sel ps
   entriesOf a sel (ended t ∷ ps) =
@@ -38,4 +38,4 @@ module _ (u : Setup) where
 
   -- of a list of calls; a fresh rack selects nobody
   abbrev pub shareFor : List Call → ℕ → List Entry
-  shareFor calls a = entriesOf a nobody (pieces [] (stream grammar u calls))
+  shareFor calls a = entriesOf a nobody (arrivals [] (stream grammar u calls))

@@ -1,3 +1,4 @@
+// Layer ground.
 // Figures as they are printed: digits and a point, placed into a lent buffer.
 ghost use Rattle.base.specs.Put.{Put};
 ghost use Rattle.prints.specs.Figure.{fixed, shortest, figure};

@@ -18,12 +18,12 @@ use Rattle.words.specs.Words.{findWord}
 use Rattle.parameters.specs.Parameters.{readAs, parameterOf}
 use Rattle.asks.specs.Words.{askedBy}
 use Rattle.asks.specs.Asked.{asksOf}
-use Rattle.command.specs.Lines.{rightSum, heardOf}
+use Rattle.command.specs.Lines.{rightChecksum, heardOf}
 use Rattle.texts.specs.Texts.{codeText, answerText, ending}
 use Rattle.reply.specs.Obeying.{saidOf}
 use Rattle.protocol.specs.Sent.{obeyed, repliedTo}
 use Rattle.protocol.specs.Bench.{benchFigures, BenchFigures}
 
 pub bench : BenchFigures
-unfolding benchFigures obeyed repliedTo saidOf codeText answerText ending heardOf asksOf rightSum askedBy parameterOf readAs findWord answerOf performed acted clearingQuery clearingOrder clearingAct codeOf ordered outDone remote remoteBy orderCode setCode sampled turnedOn turned stepped nearestIn signedOf leastOf mostOf withSetting settingOf settled onOf linesClear inLimit fltOf fresh figure decimals shortest fixed checksum total hexPair readHex hexOf isHex readNumber scaledValue wholeUnits wellFormed firstAt runValue allDigits voltReading ampReading limitsOf table
+unfolding benchFigures obeyed repliedTo saidOf codeText answerText ending heardOf asksOf rightChecksum askedBy parameterOf readAs findWord answerOf performed acted clearingQuery clearingOrder clearingAct codeOf ordered outDone remote remoteBy orderCode setCode sampled turnedOn turned stepped nearestIn signedOf leastOf mostOf withSetting settingOf settled onOf linesClear inLimit fltOf fresh figure decimals shortest fixed checksum total hexPair readHex hexOf isHex readNumber scaledValue wholeUnits wellFormed firstAt runValue allDigits voltReading ampReading limitsOf table
 bench = refl

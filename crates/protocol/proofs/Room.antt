@@ -33,7 +33,7 @@ use Rattle.parameters.specs.Parameters.{c01, c04, isEmpty, parameterOf}
 use Rattle.asks.specs.Words.{Command, toOne, ofOne, toAll, selecting, unknownWord, kindOf, asksWith, failsWith}
 use Rattle.asks.specs.Words.{commands, commandOf, askedWith, askedBy}
 use Rattle.asks.specs.Asked.{wordOf, parameterText, asksOf}
-use Rattle.command.specs.Lines.{hasSum, rightSum, summedPart, heardAs, heardOf}
+use Rattle.command.specs.Lines.{hasChecksum, rightChecksum, beforeChecksum, heardAs, heardOf}
 use Rattle.texts.specs.Texts.{codeText, wordText, answerText, ending}
 use Rattle.reply.specs.Obeying.{saidOf}
 use Rattle.protocol.specs.Sent.{repliedTo}
@@ -109,15 +109,15 @@ said-short m s z (Error c) n h l = rw length-append (omega (arith, code-short c)
 said-short m s z (Everyone o) n h l = omega arith
 said-short m s z Nobody n h l = omega arith
 
--- a sum is three bytes more
-summed-longer : (m : ℕ) (s : Supply) (a : Asks) → length (repliedTo m s a true) ≤ length (repliedTo m s a false) + 3
+-- a checksum is three bytes more
+checksummed-longer : (m : ℕ) (s : Supply) (a : Asks) → length (repliedTo m s a true) ≤ length (repliedTo m s a false) + 3
 unfolding repliedTo ending hexPair
-summed-longer m s (One a) = rw (length-append, length-append) (omega arith)
-summed-longer m s (Select k) = rw (length-append, length-append) (omega arith)
-summed-longer m s (BadSelect c) = rw (length-append, length-append) (omega arith)
-summed-longer m s (Error c) = rw (length-append, length-append) (omega arith)
-summed-longer m s (Everyone o) = omega arith
-summed-longer m s Nobody = omega arith
+checksummed-longer m s (One a) = rw (length-append, length-append) (omega arith)
+checksummed-longer m s (Select k) = rw (length-append, length-append) (omega arith)
+checksummed-longer m s (BadSelect c) = rw (length-append, length-append) (omega arith)
+checksummed-longer m s (Error c) = rw (length-append, length-append) (omega arith)
+checksummed-longer m s (Everyone o) = omega arith
+checksummed-longer m s Nobody = omega arith
 
 empty-reply : (m : ℕ) (s : Supply) → length (repliedTo m s (One Nothing) false) ≡ 3
 unfolding repliedTo saidOf codeOf codeText ending
@@ -181,19 +181,19 @@ body-short m s z u = byEmpty (isEmpty u) refl
 -- whatever a line asks
 any-short : (m : ℕ) (s : Supply) → Sized s → (a : Asks) (b : Bool) → length (repliedTo m s a b) ≤ longest
 any-short m s z a false = omega (arith, said-short m s z a 3 (λ q. omega arith) (omega arith))
-any-short m s z a true = omega (arith, said-short m s z a 3 (λ q. omega arith) (omega arith), summed-longer m s a)
+any-short m s z a true = omega (arith, said-short m s z a 3 (λ q. omega arith) (omega arith), checksummed-longer m s a)
 
 -- ROOM
 pub room : (m : ℕ) (s : Supply) → Sized s → (t : List ℕ) → Room m s t
 unfolding heardOf
-room m s z t = record { fair = bySum (hasSum t) (rightSum t) refl; short = any-short m s z _ _; spoiled = error-reply m s }
+room m s z t = record { fair = byChecksum (hasChecksum t) (rightChecksum t) refl; short = any-short m s z _ _; spoiled = error-reply m s }
   where
-    bySum : (h r : Bool) → hasSum t ≡ h
-        → length (repliedTo m s (pick h (pick r (heardAs (asksOf (summedPart t)) true) (heardAs (Error c04) false)) (heardAs (asksOf t) false) .asks) (pick h (pick r (heardAs (asksOf (summedPart t)) true) (heardAs (Error c04) false)) (heardAs (asksOf t) false) .summed)) ≤ 3 * (length t + 1)
-    bySum true true e =
+    byChecksum : (h r : Bool) → hasChecksum t ≡ h
+        → length (repliedTo m s (pick h (pick r (heardAs (asksOf (beforeChecksum t)) true) (heardAs (Error c04) false)) (heardAs (asksOf t) false) .asks) (pick h (pick r (heardAs (asksOf (beforeChecksum t)) true) (heardAs (Error c04) false)) (heardAs (asksOf t) false) .checksummed)) ≤ 3 * (length t + 1)
+    byChecksum true true e =
         let l = leb-true 3 (length t) (and-eq-true-iff (leb 3 (length t)) (eqb (getD t (length t - 3) 0) 36) .0 e .0) in
-        omega (arith, body-short m s z (summedPart t), summed-longer m s (asksOf (summedPart t)), length-take (length t - 3) t)
-    bySum true false e =
+        omega (arith, body-short m s z (beforeChecksum t), checksummed-longer m s (asksOf (beforeChecksum t)), length-take (length t - 3) t)
+    byChecksum true false e =
         let l = leb-true 3 (length t) (and-eq-true-iff (leb 3 (length t)) (eqb (getD t (length t - 3) 0) 36) .0 e .0) in
         said-short m s z (Error c04) (length t) (λ q. absurd (false≢true q)) (omega arith)
-    bySum false r e = body-short m s z t
+    byChecksum false r e = body-short m s z t

@@ -32,7 +32,7 @@ use Rattle.asks.specs.declared.Asks.the-variants.{One}
 use Rattle.parameters.specs.Parameters.{number, isEmpty, readAs, parameterOf}
 use Rattle.asks.specs.Words.{set, toOne, askedWith, askedBy}
 use Rattle.asks.specs.Asked.{asksOf}
-use Rattle.command.specs.Lines.{hasSum, heardAs, heardOf}
+use Rattle.command.specs.Lines.{hasChecksum, heardAs, heardOf}
 use Rattle.texts.specs.Texts.{answerText, ending}
 use Rattle.reply.specs.Obeying.{saidOf}
 use Rattle.protocol.specs.Sent.{repliedTo}
@@ -63,9 +63,9 @@ third-4 v e =
     let d : getD (decimals 4 v) 2 0 ≡ 36 = sym (figure-at 4 v 2) ∙ rw i at e in
     omega arith
 
--- a word, a space and such a figure have no sum
-no-sum : (w xs : List ℕ) → 3 ≤ length xs → (getD xs (length xs - 3) 0 ≡ 36 → ⊥) → hasSum (w ++ (32 ∷ xs)) ≡ false
-no-sum w xs h n =
+-- a word, a space and such a figure have no checksum
+no-checksum : (w xs : List ℕ) → 3 ≤ length xs → (getD xs (length xs - 3) 0 ≡ 36 → ⊥) → hasChecksum (w ++ (32 ∷ xs)) ≡ false
+no-checksum w xs h n =
     let l = length-append w (32 ∷ xs) in
     let i : length (w ++ (32 ∷ xs)) - 3 ≡ length w + suc (length xs - 3) = omega arith in
     let g : getD (w ++ (32 ∷ xs)) (length (w ++ (32 ∷ xs)) - 3) 0 ≡ getD xs (length xs - 3) 0 = rw i (getD-append-add w (32 ∷ xs) (suc (length xs - 3)) 0) in
@@ -86,10 +86,10 @@ number-asked t k v h l =
 
 read-back : (m : ℕ) (s : Supply) (t : Target) → settingOf t s < 2 ^ 32 → heardOf (orderWord t ++ (32 ∷ answerText (answerOf m s (queryOf t)))) false ≡ heardAs (One (Obey (Set t (settingOf t s)))) false
 unfolding heardOf asksOf askedBy answerOf answerText findWord firstAt settingOf
-read-back m s Pv l = rw (no-sum (orderWord Pv) (figure 4 (s .pv)) (omega (arith, figure-length 3 (s .pv))) (third-4 (s .pv)), not-empty (orderWord Pv) (figure 4 (s .pv))) (ap (λ a. heardAs a false) (number-asked Pv 3 (s .pv) (lit< tt) l))
-read-back m s Pc l = rw (no-sum (orderWord Pc) (figure 3 (s .pc)) (omega (arith, figure-length 2 (s .pc))) (third-3 (s .pc)), not-empty (orderWord Pc) (figure 3 (s .pc))) (ap (λ a. heardAs a false) (number-asked Pc 2 (s .pc) (lit< tt) l))
-read-back m s Ovp l = rw (no-sum (orderWord Ovp) (figure 4 (s .ovp)) (omega (arith, figure-length 3 (s .ovp))) (third-4 (s .ovp)), not-empty (orderWord Ovp) (figure 4 (s .ovp))) (ap (λ a. heardAs a false) (number-asked Ovp 3 (s .ovp) (lit< tt) l))
-read-back m s Uvl l = rw (no-sum (orderWord Uvl) (figure 4 (s .uvl)) (omega (arith, figure-length 3 (s .uvl))) (third-4 (s .uvl)), not-empty (orderWord Uvl) (figure 4 (s .uvl))) (ap (λ a. heardAs a false) (number-asked Uvl 3 (s .uvl) (lit< tt) l))
+read-back m s Pv l = rw (no-checksum (orderWord Pv) (figure 4 (s .pv)) (omega (arith, figure-length 3 (s .pv))) (third-4 (s .pv)), not-empty (orderWord Pv) (figure 4 (s .pv))) (ap (λ a. heardAs a false) (number-asked Pv 3 (s .pv) (lit< tt) l))
+read-back m s Pc l = rw (no-checksum (orderWord Pc) (figure 3 (s .pc)) (omega (arith, figure-length 2 (s .pc))) (third-3 (s .pc)), not-empty (orderWord Pc) (figure 3 (s .pc))) (ap (λ a. heardAs a false) (number-asked Pc 2 (s .pc) (lit< tt) l))
+read-back m s Ovp l = rw (no-checksum (orderWord Ovp) (figure 4 (s .ovp)) (omega (arith, figure-length 3 (s .ovp))) (third-4 (s .ovp)), not-empty (orderWord Ovp) (figure 4 (s .ovp))) (ap (λ a. heardAs a false) (number-asked Ovp 3 (s .ovp) (lit< tt) l))
+read-back m s Uvl l = rw (no-checksum (orderWord Uvl) (figure 4 (s .uvl)) (omega (arith, figure-length 3 (s .uvl))) (third-4 (s .uvl)), not-empty (orderWord Uvl) (figure 4 (s .uvl))) (ap (λ a. heardAs a false) (number-asked Uvl 3 (s .uvl) (lit< tt) l))
 
 -- a setting that is sent back where it stands is accepted, and stays
 sent-accepted : (m : ℕ) (s : Supply) (t : Target) → Lawful m s → codeOf m s (Obey (Set t (settingOf t s))) ≡ 0

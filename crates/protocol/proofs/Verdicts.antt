@@ -13,8 +13,8 @@ use Rattle.parameters.specs.Parameters.{Kind, bare, number, switch, hex, addres
 use Rattle.words.specs.Words.{upperAll}
 use Rattle.asks.specs.Words.{Command, kindOf, asksWith, failsWith, commandOf, askedWith, askedBy}
 use Rattle.asks.specs.Asked.{wordOf, parameterText, asksOf}
-use Rattle.command.specs.Lines.{hasSum, rightSum, summedPart, heardAs, heardOf}
-use Rattle.protocol.specs.Verdicts.{Stage, firstOf, commandIn, kindIn, givenIn, isUnknown, isAbsent, isMalformed, isBeyond, drawsSum, valueOf, stages}
+use Rattle.command.specs.Lines.{hasChecksum, rightChecksum, beforeChecksum, heardAs, heardOf}
+use Rattle.protocol.specs.Verdicts.{Stage, firstOf, commandIn, kindIn, givenIn, isUnknown, isAbsent, isMalformed, isBeyond, drawsChecksum, valueOf, stages}
 
 module _ (k : Command) where
   -- a parameter that is needed: absent, malformed, or read
@@ -49,7 +49,7 @@ module _ (k : Command) where
   by-kind address x = address-cases (readAs address x .value) (isEmpty x) (readAs address x .good) (ltb 30 (readAs address x .value)) refl
   by-kind unknown x = refl
 
--- the stages after the sum, of a line without its sum
+-- the stages after the checksum, of a line without its checksum
 body-stages : (u : List ℕ) → asksOf u ≡ pick (isEmpty u) (One Nothing) (firstOf (ownStages (commandOf (upperAll (wordOf u))) (kindOf (commandOf (upperAll (wordOf u)))) (parameterText u)) (asksWith (commandOf (upperAll (wordOf u))) (valueOf (kindOf (commandOf (upperAll (wordOf u)))) (parameterText u))))
 unfolding asksOf askedBy
 body-stages u = ap (pick (isEmpty u) (One Nothing)) (by-kind (commandOf (upperAll (wordOf u))) (kindOf (commandOf (upperAll (wordOf u)))) (parameterText u))
@@ -58,27 +58,27 @@ body-stages u = ap (pick (isEmpty u) (One Nothing)) (by-kind (commandOf (upperAl
 pub verdicts : (t : List ℕ) (spoiled : Bool) → heardOf t spoiled .asks ≡ firstOf (stages t spoiled) (asksWith (commandIn t) (valueOf (kindIn t) (givenIn t)))
 unfolding heardOf
 verdicts t true = refl
-verdicts t false = bySum (hasSum t) (rightSum t) refl
+verdicts t false = byChecksum (hasChecksum t) (rightChecksum t) refl
   where
-    bySum : (h r : Bool) → hasSum t ≡ h
-        → pick h (pick r (heardAs (asksOf (summedPart t)) true) (heardAs (Error c04) false)) (heardAs (asksOf t) false) .asks
-        ≡ pick (h && not r) (Error c04) (pick (isEmpty (pick h (summedPart t) t)) (One Nothing) (firstOf (ownStages (commandOf (upperAll (wordOf (pick h (summedPart t) t)))) (kindOf (commandOf (upperAll (wordOf (pick h (summedPart t) t))))) (parameterText (pick h (summedPart t) t))) (asksWith (commandOf (upperAll (wordOf (pick h (summedPart t) t)))) (valueOf (kindOf (commandOf (upperAll (wordOf (pick h (summedPart t) t))))) (parameterText (pick h (summedPart t) t))))))
-    bySum true true e = body-stages (summedPart t)
-    bySum true false e = refl
-    bySum false r e = body-stages t
+    byChecksum : (h r : Bool) → hasChecksum t ≡ h
+        → pick h (pick r (heardAs (asksOf (beforeChecksum t)) true) (heardAs (Error c04) false)) (heardAs (asksOf t) false) .asks
+        ≡ pick (h && not r) (Error c04) (pick (isEmpty (pick h (beforeChecksum t) t)) (One Nothing) (firstOf (ownStages (commandOf (upperAll (wordOf (pick h (beforeChecksum t) t)))) (kindOf (commandOf (upperAll (wordOf (pick h (beforeChecksum t) t))))) (parameterText (pick h (beforeChecksum t) t))) (asksWith (commandOf (upperAll (wordOf (pick h (beforeChecksum t) t)))) (valueOf (kindOf (commandOf (upperAll (wordOf (pick h (beforeChecksum t) t))))) (parameterText (pick h (beforeChecksum t) t))))))
+    byChecksum true true e = body-stages (beforeChecksum t)
+    byChecksum true false e = refl
+    byChecksum false r e = body-stages t
 
 -- A REPLY CARRIES A SUM exactly where the line has a right one and is not spoiled
-pub summed-when : (t : List ℕ) (spoiled : Bool) → heardOf t spoiled .summed ≡ drawsSum t spoiled
+pub checksummed-when : (t : List ℕ) (spoiled : Bool) → heardOf t spoiled .checksummed ≡ drawsChecksum t spoiled
 unfolding heardOf
-summed-when t true = refl
-summed-when t false = bySum (hasSum t) (rightSum t)
+checksummed-when t true = refl
+checksummed-when t false = byChecksum (hasChecksum t) (rightChecksum t)
   where
-    bySum : (h r : Bool)
-        → pick h (pick r (heardAs (asksOf (summedPart t)) true) (heardAs (Error c04) false)) (heardAs (asksOf t) false) .summed
+    byChecksum : (h r : Bool)
+        → pick h (pick r (heardAs (asksOf (beforeChecksum t)) true) (heardAs (Error c04) false)) (heardAs (asksOf t) false) .checksummed
         ≡ (h && r)
-    bySum true true = refl
-    bySum true false = refl
-    bySum false r = refl
+    byChecksum true true = refl
+    byChecksum true false = refl
+    byChecksum false r = refl
 
 -- the first stage that applies decides, whatever stands after it
 abbrev pub NoneApplies : List Stage → Type 0

@@ -23,37 +23,37 @@ pub data Input : Type 0 where
 abbrev pub repliesOn : ℕ → Supply → List Input → List (List ℕ)
 repliesOn m s [] = []
 repliesOn m s (line t ∷ is) =
-    repliedTo m s (heardOf (codes t) false .asks) (heardOf (codes t) false .summed) ∷ repliesOn m (obeyed m s (heardOf (codes t) false .asks)) is
+    repliedTo m s (heardOf (codes t) false .asks) (heardOf (codes t) false .checksummed) ∷ repliesOn m (obeyed m s (heardOf (codes t) false .asks)) is
 repliesOn m s (counts v a ∷ is) = repliesOn m (performed m s (Sample v a)) is
 repliesOn m s (step t raw ∷ is) = repliesOn m (performed m s (Turn t raw)) is
 
-pub record Figure : Type 0 where
+pub record BenchFigure : Type 0 where
   pub model : ℕ
   pub inputs : List Input
   pub replies : List String
 
-abbrev pub drawn : Figure → List (List ℕ)
+abbrev pub drawn : BenchFigure → List (List ℕ)
 drawn f = repliesOn (f .model) (fresh (f .model)) (f .inputs)
 
-abbrev pub expected : Figure → List (List ℕ)
+abbrev pub expected : BenchFigure → List (List ℕ)
 expected f = map (λ (t : String). codes t ++ (13 ∷ [])) (f .replies)
 
-abbrev pub figure : ℕ → List Input → List String → Figure
-figure m is rs = record { model = m; inputs = is; replies = rs }
+abbrev pub benchFigure : ℕ → List Input → List String → BenchFigure
+benchFigure m is rs = record { model = m; inputs = is; replies = rs }
 
-unfoldable pub benchFigures : List Figure
+unfoldable pub benchFigures : List BenchFigure
 benchFigures =
-    figure 0 (line "PV 6.3" ∷ line "PV 6.3001" ∷ []) ("OK" ∷ "C05" ∷ []) ∷
-    figure 6 (line "PV 62.8571" ∷ line "PV 62.8572" ∷ []) ("OK" ∷ "E01" ∷ []) ∷
-    figure 3 (line "PV 10" ∷ line "UVL 9.5001" ∷ line "UVL 9.5" ∷ line "PV 9.9999" ∷ []) ("OK" ∷ "E06" ∷ "OK" ∷ "E02" ∷ []) ∷
-    figure 3 (line "PV 10" ∷ line "OVP 10.4999" ∷ line "OVP 10.5" ∷ []) ("OK" ∷ "E04" ∷ "OK" ∷ []) ∷
-    figure 2 (line "PV 12.5" ∷ line "UVL 11.9" ∷ line "PV 13" ∷ line "UVL 11.9" ∷ line "UVL 11.9001" ∷ []) ("OK" ∷ "E06" ∷ "OK" ∷ "OK" ∷ "C05" ∷ []) ∷
-    figure 11 (counts 65535 0 ∷ line "MV?" ∷ []) ("786.4200" ∷ []) ∷
-    figure 0 (counts 65535 0 ∷ line "MV?" ∷ []) ("7.8642" ∷ []) ∷
-    figure 0 (line "PV 5.00009" ∷ line "PV?" ∷ []) ("OK" ∷ "5.0000" ∷ []) ∷
-    figure 0 (line "PV?$E5" ∷ []) ("0.0000$1E" ∷ []) ∷
-    figure 6 (step Pv 6000000 ∷ line "PV?" ∷ []) ("62.8571" ∷ []) ∷
-    figure 0
+    benchFigure 0 (line "PV 6.3" ∷ line "PV 6.3001" ∷ []) ("OK" ∷ "C05" ∷ []) ∷
+    benchFigure 6 (line "PV 62.8571" ∷ line "PV 62.8572" ∷ []) ("OK" ∷ "E01" ∷ []) ∷
+    benchFigure 3 (line "PV 10" ∷ line "UVL 9.5001" ∷ line "UVL 9.5" ∷ line "PV 9.9999" ∷ []) ("OK" ∷ "E06" ∷ "OK" ∷ "E02" ∷ []) ∷
+    benchFigure 3 (line "PV 10" ∷ line "OVP 10.4999" ∷ line "OVP 10.5" ∷ []) ("OK" ∷ "E04" ∷ "OK" ∷ []) ∷
+    benchFigure 2 (line "PV 12.5" ∷ line "UVL 11.9" ∷ line "PV 13" ∷ line "UVL 11.9" ∷ line "UVL 11.9001" ∷ []) ("OK" ∷ "E06" ∷ "OK" ∷ "OK" ∷ "C05" ∷ []) ∷
+    benchFigure 11 (counts 65535 0 ∷ line "MV?" ∷ []) ("786.4200" ∷ []) ∷
+    benchFigure 0 (counts 65535 0 ∷ line "MV?" ∷ []) ("7.8642" ∷ []) ∷
+    benchFigure 0 (line "PV 5.00009" ∷ line "PV?" ∷ []) ("OK" ∷ "5.0000" ∷ []) ∷
+    benchFigure 0 (line "PV?$E5" ∷ []) ("0.0000$1E" ∷ []) ∷
+    benchFigure 6 (step Pv 6000000 ∷ line "PV?" ∷ []) ("62.8571" ∷ []) ∷
+    benchFigure 0
     (line "PV 5" ∷ line "PC 10" ∷ line "OVP 5.5" ∷ line "OUT 1" ∷
     counts 45833 0 ∷ line "FLT?" ∷
     counts 45834 0 ∷ line "FLT?" ∷

@@ -19,11 +19,11 @@ obeyed m s (BadSelect c) = s
 obeyed m s Nobody = s
 obeyed m s (Error c) = s
 
--- the reply that a line draws from the supply selected, with its sum where the line had one; global lines draw none
+-- the reply that a line draws from the supply selected, with its checksum where the line had one; global lines draw none
 unfoldable pub repliedTo : ℕ → Supply → Asks → Bool → List ℕ
-repliedTo m s (One a) summed = replyOf summed (saidOf m s a)
-repliedTo m s (Error c) summed = replyOf summed (codeText c)
-repliedTo m s (Select n) summed = replyOf summed (codeText 0)
-repliedTo m s (BadSelect c) summed = replyOf summed (codeText c)
-repliedTo m s (Everyone o) summed = []
-repliedTo m s Nobody summed = []
+repliedTo m s (One a) checksummed = replyOf checksummed (saidOf m s a)
+repliedTo m s (Error c) checksummed = replyOf checksummed (codeText c)
+repliedTo m s (Select n) checksummed = replyOf checksummed (codeText 0)
+repliedTo m s (BadSelect c) checksummed = replyOf checksummed (codeText c)
+repliedTo m s (Everyone o) checksummed = []
+repliedTo m s Nobody checksummed = []

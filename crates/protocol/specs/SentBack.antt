@@ -64,6 +64,6 @@ longest = 63
 
 -- ROOM: a line that is not spoiled draws at most rate × (n + 1) bytes of reply, and no more than the longest; a spoiled one draws C01 and CR
 pub record Room (m : ℕ) (s : Supply) (t : List ℕ) : Type 0 where
-  pub fair : length (repliedTo m s (heardOf t false .asks) (heardOf t false .summed)) ≤ rate * (length t + 1)
-  pub short : length (repliedTo m s (heardOf t false .asks) (heardOf t false .summed)) ≤ longest
-  pub spoiled : length (repliedTo m s (heardOf t true .asks) (heardOf t true .summed)) ≡ 4
+  pub fair : length (repliedTo m s (heardOf t false .asks) (heardOf t false .checksummed)) ≤ rate * (length t + 1)
+  pub short : length (repliedTo m s (heardOf t false .asks) (heardOf t false .checksummed)) ≤ longest
+  pub spoiled : length (repliedTo m s (heardOf t true .asks) (heardOf t true .checksummed)) ≡ 4

@@ -12,7 +12,7 @@ use Rattle.asks.specs.declared.Asks.the-variants.{One, Error}
 use Rattle.parameters.specs.Parameters.{Kind, bare, number, switch, hex, address, unknown, c01, c02, c03, c04, readAs, isEmpty}
 use Rattle.asks.specs.Words.{Command, kindOf, failsWith, commandOf}
 use Rattle.asks.specs.Asked.{wordOf, parameterText}
-use Rattle.command.specs.Lines.{hasSum, rightSum, summedPart}
+use Rattle.command.specs.Lines.{hasChecksum, rightChecksum, beforeChecksum}
 
 -- a stage: whether it applies, and what the line then is
 abbrev pub Stage : Type 0
@@ -23,9 +23,9 @@ abbrev pub firstOf : List Stage → Asks → Asks
 firstOf [] a = a
 firstOf (e ∷ es) a = pick (e .0) (e .1) (firstOf es a)
 
--- the line without its sum, its word in capitals, its command with what that takes, and its parameter
+-- the line without its checksum, its word in capitals, its command with what that takes, and its parameter
 abbrev pub bodyOf : List ℕ → List ℕ
-bodyOf t = pick (hasSum t) (summedPart t) t
+bodyOf t = pick (hasChecksum t) (beforeChecksum t) t
 
 abbrev pub wordIn : List ℕ → List ℕ
 wordIn t = upperAll (wordOf (bodyOf t))
@@ -74,23 +74,23 @@ isBeyond (switch n) x = false
 isBeyond hex x = false
 isBeyond address x = ltb 30 (readAs address x .value)
 
--- it has a sum, and that is wrong
-abbrev pub isWronglySummed : List ℕ → Bool
-isWronglySummed t = hasSum t && not (rightSum t)
+-- it has a checksum, and that is wrong
+abbrev pub hasWrongChecksum : List ℕ → Bool
+hasWrongChecksum t = hasChecksum t && not (rightChecksum t)
 
--- its reply carries a sum: the line has one, which is right, and it is not spoiled
-abbrev pub drawsSum : List ℕ → Bool → Bool
-drawsSum t spoiled = not spoiled && (hasSum t && rightSum t)
+-- its reply carries a checksum: the line has one, which is right, and it is not spoiled
+abbrev pub drawsChecksum : List ℕ → Bool → Bool
+drawsChecksum t spoiled = not spoiled && (hasChecksum t && rightChecksum t)
 
 -- what a word takes where its parameter is good
 abbrev pub valueOf : Kind → List ℕ → ℕ
 valueOf k x = readAs k x .value
 
--- spoiled C01; wrong sum C04; empty OK; unknown word C01; absent C02; malformed C03; and an address above 30 C05
+-- spoiled C01; wrong checksum C04; empty OK; unknown word C01; absent C02; malformed C03; and an address above 30 C05
 abbrev pub stages : List ℕ → Bool → List Stage
 stages t spoiled =
     (spoiled, Error c01) ∷
-    (isWronglySummed t, Error c04) ∷
+    (hasWrongChecksum t, Error c04) ∷
     (isEmpty (bodyOf t), One Nothing) ∷
     (isUnknown (kindIn t), failsWith (commandIn t) c01) ∷
     (isAbsent (kindIn t) (givenIn t), failsWith (commandIn t) c02) ∷

@@ -34,19 +34,19 @@ pub view-is : (v : wire.Rack Supply) → viewOf (packed v) ≡ v
 view-is v = let e = take-all (length (v .wire .kept)) (v .wire .kept) (omega arith) in rw e refl
 
 -- an answer as a call on the rack m has it, and the buffer that it leaves
-abbrev pub answerAs : Rack → wire.Answer Supply → Answer
+abbrev pub answerAs : Rack → wire.CallResult Supply → Answer
 answerAs m (wire.refused n) = refusal m n
 answerAs m (wire.done q used t) = record { code = 0; rack = packed q; used = used; length = length t }
 
-abbrev leftAs : List ℕ → wire.Answer Supply → List ℕ
+abbrev leftAs : List ℕ → wire.CallResult Supply → List ℕ
 leftAs b (wire.refused n) = b
 leftAs b (wire.done q used t) = t ++ drop (length t) b
 
-answered : (m : Rack) (b : List ℕ) (w : wire.Answer Supply) → length (after plainSupply (viewOf m) w .wire .kept) ≤ 64 → Answered m b w (answerAs m w) (leftAs b w)
+answered : (m : Rack) (b : List ℕ) (w : wire.CallResult Supply) → length (after plainSupply (viewOf m) w .wire .kept) ≤ 64 → Answered m b w (answerAs m w) (leftAs b w)
 answered m b (wire.refused n) h = (refl, refl)
 answered m b (wire.done q used t) h = λ small. record { code-is = refl; used-is = refl; small = h; rack-is = view-is q; length-is = refl; buffer-is = refl }
 
-view-after : (m : Rack) (w : wire.Answer Supply) → viewOf (answerAs m w .rack) ≡ after plainSupply (viewOf m) w
+view-after : (m : Rack) (w : wire.CallResult Supply) → viewOf (answerAs m w .rack) ≡ after plainSupply (viewOf m) w
 view-after m (wire.refused n) = refl
 view-after m (wire.done q used t) = view-is q
 
@@ -54,7 +54,7 @@ view-after m (wire.done q used t) = view-is q
 pub through : (m : Rack) (c : Call) (Rest : Rack → Type 0) → length (after plainSupply (viewOf m) (callOf plainSupply (viewOf m) c) .wire .kept) ≤ 64 → Rest (answerAs m (callOf plainSupply (viewOf m) c) .rack) → Through m c Rest
 through m c Rest short rest =
     let b : List ℕ = replicate (c .room) 0 in
-    let w : wire.Answer Supply = callOf plainSupply (viewOf m) c in
+    let w : wire.CallResult Supply = callOf plainSupply (viewOf m) c in
     let same : callAs (c .bytes) b ≡ c = ap (λ (n : ℕ). record { bytes = c .bytes; room = n }) (length-replicate (c .room) 0) in
     record {
       buffer = b;
@@ -71,7 +71,7 @@ Lawful v = LawfulWire (v .setup) (v .wire)
 some-leads : (calls : List Call) (m : Rack) → Lawful (viewOf m) → (q : Rack) × Leads m calls q
 some-leads [] m h = (m, refl)
 some-leads (c ∷ cs) m h =
-    let w : wire.Answer Supply = callOf plainSupply (viewOf m) c in
+    let w : wire.CallResult Supply = callOf plainSupply (viewOf m) c in
     let kept : LawfulWire (m .setup) (after plainSupply (viewOf m) w .wire) = run-lawful plainSupply (viewOf m) (c ∷ []) h in
     let setup : after plainSupply (viewOf m) w .setup ≡ m .setup = run-setup plainSupply (viewOf m) (c ∷ []) in
     let next : Lawful (viewOf (answerAs m w .rack)) = subst Lawful (sym (view-after m w)) (subst (λ (u : Setup). LawfulWire u (after plainSupply (viewOf m) w .wire)) (sym setup) kept) in

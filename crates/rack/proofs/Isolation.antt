@@ -25,7 +25,7 @@ pub record Seen (r : Rack) (v : wire.Rack Supply) : Type 0 where
   pub small : Able r
   pub is : viewOf r ≡ v
 
-answered-seen : (r : Rack) (b : List ℕ) (w : wire.Answer Supply) (a : Answer) (b′ : List ℕ) → Able r → Answered r b w a b′ → Seen (a .rack) (after plainSupply (viewOf r) w)
+answered-seen : (r : Rack) (b : List ℕ) (w : wire.CallResult Supply) (a : Answer) (b′ : List ℕ) → Able r → Answered r b w a b′ → Seen (a .rack) (after plainSupply (viewOf r) w)
 answered-seen r b (wire.refused n) a b′ h d =
     let e : a .rack ≡ r = ap (λ (x : Answer). x .rack) (d .0) in
     record { small = subst Able (sym e) h; is = ap viewOf e }

@@ -1,3 +1,4 @@
+// Layer calls.
 // The two functions that customers call: `fit` makes a rack of a fitting list, and `call` takes one field.
 ghost use Rattle.rack.specs.Fit.{FitDoes};
 pub use calls::Answer;

@@ -1,3 +1,4 @@
+// Layer reply.
 // A supply that obeys and says what came of it, its reply placed into a lent buffer.
 ghost use mathlib.Core.Path.{_≡_};
 ghost use Rattle.base.specs.Put.{Put};
@@ -17,11 +18,11 @@ pub struct Obeyed {
 }
 
 // Says the code of what was done.
-fn say_code(done: Outcome, summed: bool, buf: &mut [u8], at: usize) -> Obeyed
+fn say_code(done: Outcome, checksummed: bool, buf: &mut [u8], at: usize) -> Obeyed
     ensures does { λ r. ⌜ r .supply ≡ done .supply ⌝ }
-    ensures says { λ r. ⌜ Put (now (buf .entry)) at (replyOf summed (codeText (done .code))) (r .next) (now (buf .exit)) ⌝ }
+    ensures says { λ r. ⌜ Put (now (buf .entry)) at (replyOf checksummed (codeText (done .code))) (r .next) (now (buf .exit)) ⌝ }
 {
-    let next = texts::put_code_reply(buf, at, done.code, summed);
+    let next = texts::put_code_reply(buf, at, done.code, checksummed);
     let after = done.supply;
     Obeyed {
         supply: after,
@@ -30,12 +31,12 @@ fn say_code(done: Outcome, summed: bool, buf: &mut [u8], at: usize) -> Obeyed
 }
 
 // A query is answered from the supply as it stands.
-fn ask(model: u8, s: Supply, q: Query, summed: bool, buf: &mut [u8], at: usize) -> Obeyed
+fn ask(model: u8, s: Supply, q: Query, checksummed: bool, buf: &mut [u8], at: usize) -> Obeyed
     ensures does { λ r. ⌜ r .supply ≡ performed model s (Act.Ask q) ⌝ }
-    ensures says { λ r. ⌜ Put (now (buf .entry)) at (replyOf summed (saidOf model s (Act.Ask q))) (r .next) (now (buf .exit)) ⌝ }
+    ensures says { λ r. ⌜ Put (now (buf .entry)) at (replyOf checksummed (saidOf model s (Act.Ask q))) (r .next) (now (buf .exit)) ⌝ }
 {
     let after = acts::asked(model, s, q);
-    let next = texts::put_answer_reply(buf, at, answers::answer_to(model, s, q), summed);
+    let next = texts::put_answer_reply(buf, at, answers::answer_to(model, s, q), checksummed);
     Obeyed {
         supply: after,
         next,
@@ -43,36 +44,36 @@ fn ask(model: u8, s: Supply, q: Query, summed: bool, buf: &mut [u8], at: usize) 
 }
 
 // An order is judged by the supply, and its code said.
-fn order(model: u8, s: Supply, o: Order, summed: bool, buf: &mut [u8], at: usize) -> Obeyed
+fn order(model: u8, s: Supply, o: Order, checksummed: bool, buf: &mut [u8], at: usize) -> Obeyed
     ensures does { λ r. ⌜ r .supply ≡ performed model s (Act.Obey o) ⌝ }
-    ensures says { λ r. ⌜ Put (now (buf .entry)) at (replyOf summed (saidOf model s (Act.Obey o))) (r .next) (now (buf .exit)) ⌝ }
+    ensures says { λ r. ⌜ Put (now (buf .entry)) at (replyOf checksummed (saidOf model s (Act.Obey o))) (r .next) (now (buf .exit)) ⌝ }
 {
     let done = acts::obey_order(model, s, o);
-    say_code(done, summed, buf, at)
+    say_code(done, checksummed, buf, at)
 }
 
 // Any other act is done, and its code said.
-fn other(model: u8, s: Supply, a: Act, summed: bool, buf: &mut [u8], at: usize) -> Obeyed
+fn other(model: u8, s: Supply, a: Act, checksummed: bool, buf: &mut [u8], at: usize) -> Obeyed
     ensures does { λ r. ⌜ r .supply ≡ performed model s a ⌝ }
-    ensures says { λ r. ⌜ Put (now (buf .entry)) at (replyOf summed (codeText (codeOf model s a))) (r .next) (now (buf .exit)) ⌝ }
+    ensures says { λ r. ⌜ Put (now (buf .entry)) at (replyOf checksummed (codeText (codeOf model s a))) (r .next) (now (buf .exit)) ⌝ }
 {
     let done = acts::perform(model, s, a);
-    say_code(done, summed, buf, at)
+    say_code(done, checksummed, buf, at)
 }
 
 // A supply obeys an act of a line and says what came of it. Queries and orders, which most lines are, go
 // straight to functions of their own: perform would sort them out once more.
-pub fn obey(model: u8, s: Supply, a: Act, summed: bool, buf: &mut [u8], at: usize) -> Obeyed
+pub fn obey(model: u8, s: Supply, a: Act, checksummed: bool, buf: &mut [u8], at: usize) -> Obeyed
     ensures does { λ r. ⌜ r .supply ≡ performed model s a ⌝ }
-    ensures says { λ r. ⌜ Put (now (buf .entry)) at (replyOf summed (saidOf model s a)) (r .next) (now (buf .exit)) ⌝ }
+    ensures says { λ r. ⌜ Put (now (buf .entry)) at (replyOf checksummed (saidOf model s a)) (r .next) (now (buf .exit)) ⌝ }
 {
     match a {
-        Act::Ask(q) => ask(model, s, q, summed, buf, at),
-        Act::Obey(o) => order(model, s, o, summed, buf, at),
-        Act::Lines(_) => other(model, s, a, summed, buf, at),
-        Act::Sample(_, _) => other(model, s, a, summed, buf, at),
-        Act::Press(_) => other(model, s, a, summed, buf, at),
-        Act::Turn(_, _) => other(model, s, a, summed, buf, at),
-        Act::Nothing => other(model, s, a, summed, buf, at),
+        Act::Ask(q) => ask(model, s, q, checksummed, buf, at),
+        Act::Obey(o) => order(model, s, o, checksummed, buf, at),
+        Act::Lines(_) => other(model, s, a, checksummed, buf, at),
+        Act::Sample(_, _) => other(model, s, a, checksummed, buf, at),
+        Act::Press(_) => other(model, s, a, checksummed, buf, at),
+        Act::Turn(_, _) => other(model, s, a, checksummed, buf, at),
+        Act::Nothing => other(model, s, a, checksummed, buf, at),
     }
 }

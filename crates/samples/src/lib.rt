@@ -1,3 +1,4 @@
+// Layer supply.
 // What a sample does to a supply: its counts are stored, and it may trip.
 ghost use mathlib.Core.Path.{_≡_};
 ghost use Rattle.samples.specs.Samples.{sampled};

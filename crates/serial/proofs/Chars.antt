@@ -12,14 +12,14 @@ use borrow.Author.Tests.{eq-eqb, ne-eqb, lt-ltb, le-ltb}
 use Rattle.base.proofs.Choice.{pick-keeps}
 use Rattle.wire.specs.Wire.{Wire, charOn}
 use Rattle.serial.specs.declared.Line.{Line}
-use Rattle.serial.specs.View.{Short, Typed}
+use Rattle.serial.specs.View.{Short, CharTaken}
 
 module _ (l : Line) (b : ℕ) (wide : length (l .kept) ≡ 64) (h : Short l) where
-  pub typed-lf : b ≡ 10 → Typed l b l
+  pub typed-lf : b ≡ 10 → CharTaken l b l
   unfolding charOn
   typed-lf q = record { small = h; is = rw (eq-eqb b 10 q) }
 
-  pub typed-back : (b ≡ 10 → ⊥) → b ≡ 8 → Typed l b (record { kept = l .kept; count = l .count - 1; spoiled = l .spoiled; selected = l .selected })
+  pub typed-back : (b ≡ 10 → ⊥) → b ≡ 8 → CharTaken l b (record { kept = l .kept; count = l .count - 1; spoiled = l .spoiled; selected = l .selected })
   unfolding charOn
   typed-back p q =
       record {
@@ -27,13 +27,13 @@ module _ (l : Line) (b : ℕ) (wide : length (l .kept) ≡ 64) (h : Short l) whe
         is = rw (ne-eqb b 10 p, eq-eqb b 8 q, length-take-le (l .count) (l .kept) (omega arith), take-take (l .count - 1) (l .count) (l .kept) (omega arith));
       }
 
-  pub typed-none : (b ≡ 10 → ⊥) → b ≡ 8 → l .count ≤ 0 → Typed l b l
+  pub typed-none : (b ≡ 10 → ⊥) → b ≡ 8 → l .count ≤ 0 → CharTaken l b l
   unfolding charOn
   typed-none p q z =
       let e : l .count ≡ 0 = omega arith in
       record { small = h; is = rw (ne-eqb b 10 p, eq-eqb b 8 q, e) }
 
-  pub typed-add : (b ≡ 10 → ⊥) → (b ≡ 8 → ⊥) → l .count < 64 → Typed l b (record { kept = set (l .kept) (l .count) b; count = l .count + 1; spoiled = l .spoiled; selected = l .selected })
+  pub typed-add : (b ≡ 10 → ⊥) → (b ≡ 8 → ⊥) → l .count < 64 → CharTaken l b (record { kept = set (l .kept) (l .count) b; count = l .count + 1; spoiled = l .spoiled; selected = l .selected })
   unfolding charOn
   typed-add p q s =
       record {
@@ -41,7 +41,7 @@ module _ (l : Line) (b : ℕ) (wide : length (l .kept) ≡ 64) (h : Short l) whe
         is = rw (ne-eqb b 10 p, ne-eqb b 8 q, length-take-le (l .count) (l .kept) (omega arith), lt-ltb (l .count) 64 s, add-one, take-suc-set (l .kept) (l .count) b (omega arith));
       }
 
-  pub typed-full : (b ≡ 10 → ⊥) → (b ≡ 8 → ⊥) → 64 ≤ l .count → Typed l b (record { kept = l .kept; count = l .count; spoiled = true; selected = l .selected })
+  pub typed-full : (b ≡ 10 → ⊥) → (b ≡ 8 → ⊥) → 64 ≤ l .count → CharTaken l b (record { kept = l .kept; count = l .count; spoiled = true; selected = l .selected })
   unfolding charOn
   typed-full p q s = record { small = h; is = rw (ne-eqb b 10 p, ne-eqb b 8 q, length-take-le (l .count) (l .kept) (omega arith), le-ltb (l .count) 64 s) }
 

@@ -21,11 +21,11 @@ abbrev pub Short : Line → Type 0
 Short l = l .count ≤ 64
 
 -- the line after a serial byte that is no CR: it is the definition's, and still has 64 characters at most
-pub record Typed (l : Line) (b : ℕ) (r : Line) : Type 0 where
+pub record CharTaken (l : Line) (b : ℕ) (r : Line) : Type 0 where
   pub small : Short r
   pub is : wireOf r ≡ charOn (wireOf l) b
 
 -- such a byte in the code, which has the characters in an array of 64, whatever slot is selected
 pub record CharDoes (kept : List ℕ) (count : ℕ) (spoiled : Bool) (b : ℕ) (kept′ : List ℕ) (r : Counted) : Type 0 where
   pub same : length kept′ ≡ length kept
-  pub typed : length kept ≡ 64 → (selected : ℕ) → Short (lineOf kept count spoiled selected) → Typed (lineOf kept count spoiled selected) b (lineOf kept′ (r .count) (r .spoiled) selected)
+  pub typed : length kept ≡ 64 → (selected : ℕ) → Short (lineOf kept count spoiled selected) → CharTaken (lineOf kept count spoiled selected) b (lineOf kept′ (r .count) (r .spoiled) selected)

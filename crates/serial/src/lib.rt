@@ -1,3 +1,4 @@
+// Layer rack.
 // The serial line in code: its kept characters byte by byte, what a line asks at its CR, and the model at an address.
 ghost use mathlib.Core.Path.{_≡_};
 ghost use Rattle.wire.specs.Wire.{freshWire, modelAt, fitted};

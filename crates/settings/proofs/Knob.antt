@@ -12,7 +12,7 @@ use Rattle.supply.specs.declared.Supply.{Supply}
 use Rattle.supply.specs.declared.Target.{Target}
 use Rattle.supply.specs.declared.Target.the-variants.{Pv, Pc, Ovp, Uvl}
 use Rattle.settings.specs.Settings.{settingOf, withSetting, ceiling, leastOf, mostOf, signedOf, nearestIn, stepped}
-use Rattle.settings.specs.Lawful.{Within, Kept, Admissible, Nearest}
+use Rattle.settings.specs.Lawful.{Within, Bounded, Admissible, Nearest}
 
 -- a quotient rounded up is at most x just where the product says so
 module _ (q n x : ℕ) (some : 0 < q) where
@@ -50,7 +50,7 @@ module _ (l : Limits) (s : Supply) where
   in-range Uvl x h = (omega arith, omega (arith, h .uvl-most, h .uvl-margin))
 
   -- and every value between them is admissible, where the supply itself keeps margins and limits
-  pub from-range : (t : Target) (x : ℕ) → Kept l s → leastOf l s t ≤ x → x ≤ mostOf l s t → Admissible l s t x
+  pub from-range : (t : Target) (x : ℕ) → Bounded l s → leastOf l s t ≤ x → x ≤ mostOf l s t → Admissible l s t x
   unfolding withSetting leastOf mostOf
   from-range Pv x h lo hi =
       within l x (s .pc) (s .ovp) (s .uvl) (omega (arith, le-of-ceiling 19 (20 * s .uvl) x (lit< tt) lo)) (omega arith) (omega arith)
@@ -64,7 +64,7 @@ module _ (l : Limits) (s : Supply) where
       within l (s .pv) (s .pc) (s .ovp) x (omega arith) (h .ovp-margin) (h .pv-limit) (h .pc-limit) (h .ovp-least) (h .ovp-most) (omega arith)
 
   -- so the interval of a supply that keeps margins and limits is not empty: it holds the setting as it stands
-  pub not-empty : (t : Target) → Kept l s → leastOf l s t ≤ mostOf l s t
+  pub not-empty : (t : Target) → Bounded l s → leastOf l s t ≤ mostOf l s t
   not-empty t h = let r = in-range t (settingOf t s) (rw (same-setting s t) h) in omega arith
 
 -- the interval is the same wherever the setting itself stands: where one value is admissible, all of the interval is
@@ -103,7 +103,7 @@ module _ (lo hi : ℕ) (some : lo ≤ hi) where
 
 module _ (l : Limits) (s : Supply) (t : Target) (raw : ℕ) where
   -- THE KNOB, on a supply that keeps margins and limits
-  pub stepped-nearest : Kept l s → Nearest l s t raw (stepped l s t raw)
+  pub stepped-nearest : Bounded l s → Nearest l s t raw (stepped l s t raw)
   unfolding stepped
   stepped-nearest h =
       let z = pos (settingOf t s) +ℤ signedOf raw in

@@ -20,16 +20,16 @@ pub record Within (l : Limits) (pv pc ovp uvl : ℕ) : Type 0 where
   pub uvl-most : uvl ≤ l .«uvl_most»
 
 -- the margins and these limits are kept by a supply
-abbrev pub Kept : Limits → Supply → Type 0
-Kept l s = Within l (s .pv) (s .pc) (s .ovp) (s .uvl)
+abbrev pub Bounded : Limits → Supply → Type 0
+Bounded l s = Within l (s .pv) (s .pc) (s .ovp) (s .uvl)
 
 -- the limits being those of a model
 abbrev pub Lawful : ℕ → Supply → Type 0
-Lawful m s = Kept (limitsOf m) s
+Lawful m s = Bounded (limitsOf m) s
 
 -- a value that a setting may take, the others as they are
 abbrev pub Admissible : Limits → Supply → Target → ℕ → Type 0
-Admissible l s t x = Kept l (withSetting t x s)
+Admissible l s t x = Bounded l (withSetting t x s)
 
 -- THE KNOB: the value is admissible, and no admissible value is nearer to the exact signed sum
 pub record Nearest (l : Limits) (s : Supply) (t : Target) (raw x : ℕ) : Type 0 where

@@ -1,3 +1,4 @@
+// Layer supply.
 // The four settings, where each may stand, and a knob step on one.
 ghost use mathlib.Core.Path.{_≡_};
 ghost use Prim.Native.Nat.{min, max};
@@ -82,7 +83,7 @@ fn most_of(model: u8, s: Supply, t: Target) -> u64
 }
 
 // x with a step added in exact arithmetic, and 0 where that is below 0.
-fn summed(x: u32, raw: u32) -> u64
+fn with_step(x: u32, raw: u32) -> u64
     ensures { λ r. ⌜ r ≡ natPart (pos x +ℤ signedOf raw) ⌝ }
 {
     let sum = (x as u64) + (raw as u64);
@@ -101,6 +102,6 @@ pub fn stepped_setting(model: u8, s: Supply, t: Target, raw: u32) -> u32
 {
     let lo = least_of(model, s, t);
     let hi = most_of(model, s, t);
-    let x = summed(setting(s, t), raw);
+    let x = with_step(setting(s, t), raw);
     smaller(hi, larger(lo, x)) as u32
 }

@@ -36,7 +36,7 @@ sized s p c o l v a = record { setting = each; volt-count = v; amp-count = a }
     each Uvl = l
 
 -- a line of either kind, as one bound
-line-room : (m : ℕ) (s : Supply) → Sized s → (kept : List ℕ) (spoiled : Bool) → length (repliedTo m s (heardOf kept spoiled .asks) (heardOf kept spoiled .summed)) ≤ min longest (rate * length kept + bit spoiled) + rate
+line-room : (m : ℕ) (s : Supply) → Sized s → (kept : List ℕ) (spoiled : Bool) → length (repliedTo m s (heardOf kept spoiled .asks) (heardOf kept spoiled .checksummed)) ≤ min longest (rate * length kept + bit spoiled) + rate
 line-room m s z kept true = omega (arith, room m s z kept .spoiled)
 line-room m s z kept false = omega (arith, room m s z kept .fair, room m s z kept .short)
 

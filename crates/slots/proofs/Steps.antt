@@ -112,5 +112,5 @@ module _ (r : Rack) (b : List ℕ) (at : ℕ) where
       byFit true f = code-fitted [] l at b f c (put-none b at)
       byFit false f = code-empty [] l f c
 
-pub heard-is : (h : Heard) (a : Asks) → h .asks ≡ a → h ≡ heardAs a (h .summed)
+pub heard-is : (h : Heard) (a : Asks) → h .asks ≡ a → h ≡ heardAs a (h .checksummed)
 heard-is h a e = rw (← e) refl

@@ -47,14 +47,14 @@ clearedTo l selected = record { kept = l .kept; count = 0; spoiled = false; sele
 
 -- what a line of this class leaves and says: the line l with the supply s of the slot selected is in any rack whose slot k is s, k
 -- being the slot selected if there is a supply in it; in that rack the supply that is left takes the place of s
-abbrev pub Ends : Setup → Line → Supply → Class → Ended → List ℕ → ℕ → List ℕ → Type 0
-Ends u l s c e b at b′ =
+abbrev pub EndsByClass : Setup → Line → Supply → Class → Ended → List ℕ → ℕ → List ℕ → Type 0
+EndsByClass u l s c e b at b′ =
     (ss : List Supply) (k : ℕ) → s ≡ getD ss k (fresh 255) → (fitted u (l .selected) ≡ true → k ≡ l .selected)
     → Moves (rackIs ss l u) (byClass u (wireOf l) c) (rackIs (set ss k (e .supply)) (clearedTo l (e .selected)) u) b at (e .next) b′
 
 -- what a line to one supply leaves and says, where the line asks the act a
 abbrev pub Asked : Setup → Line → Supply → Act → Bool → Ended → List ℕ → ℕ → List ℕ → Type 0
-Asked u l s a summed e b at b′ = heardOf (take (l .count) (l .kept)) (l .spoiled) ≡ heardAs (One a) summed → Ends u l s other e b at b′
+Asked u l s a checksummed e b at b′ = heardOf (take (l .count) (l .kept)) (l .spoiled) ≡ heardAs (One a) checksummed → EndsByClass u l s other e b at b′
 
 -- what a line for all leaves, in any rack: each fitted supply takes the order
 abbrev pub EndsAll : Setup → Line → Class → Ended → List ℕ → ℕ → List ℕ → Type 0
@@ -64,7 +64,7 @@ EndsAll u l c e b at b′ =
 -- a line at its CR: what its class leaves and says, be it for one or for all
 abbrev pub EndsLine : Setup → Line → Supply → Ended → List ℕ → ℕ → List ℕ → Type 0
 EndsLine u l s e b at b′ =
-    (e .all ≡ false → Ends u l s (classOf (take (l .count) (l .kept)) (l .spoiled)) e b at b′)
+    (e .all ≡ false → EndsByClass u l s (classOf (take (l .count) (l .kept)) (l .spoiled)) e b at b′)
     × (e .all ≡ true → EndsAll u l (classOf (take (l .count) (l .kept)) (l .spoiled)) e b at b′)
 
 -- what the line of the rack hands out at its CR

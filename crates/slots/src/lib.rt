@@ -1,3 +1,4 @@
+// Layer rack.
 // A line at its CR, of the line and the supply of the slot selected; and the rack, as its definitions see it.
 ghost use mathlib.Core.Path.{_≡_};
 ghost use mathlib.Core.Bool.{false};
@@ -7,7 +8,7 @@ ghost use Rattle.texts.specs.Texts.{codeText, replyOf};
 ghost use Rattle.protocol.specs.SentBack.{Sized};
 ghost use Rattle.serial.specs.declared.Line.{Line};
 ghost use Rattle.serial.specs.View.{lineOf};
-ghost use Rattle.slots.specs.View.{Ends, Asked, EndsLine};
+ghost use Rattle.slots.specs.View.{EndsByClass, Asked, EndsLine};
 use asks::Asks;
 use serial::Line;
 use supply::Act;
@@ -48,11 +49,11 @@ fn one_ended(selected: u8, supply: Supply, next: usize) -> Ended
 }
 
 // ADR of an address: the slot selected says OK, an empty one selects nobody.
-fn select_slot(u: Setup, s: Supply, a: u8, summed: bool, buf: &mut [u8], at: usize) -> Ended
-    ensures { λ e. ⌜ (e .all ≡ false) × ((l : Line) → Ends u l s (select a (replyOf summed (codeText 0))) e (now (buf .entry)) at (now (buf .exit))) ⌝ }
+fn select_slot(u: Setup, s: Supply, a: u8, checksummed: bool, buf: &mut [u8], at: usize) -> Ended
+    ensures { λ e. ⌜ (e .all ≡ false) × ((l : Line) → EndsByClass u l s (select a (replyOf checksummed (codeText 0))) e (now (buf .entry)) at (now (buf .exit))) ⌝ }
 {
     if serial::has_supply(u, a) {
-        let next = texts::put_code_reply(buf, at, 0, summed);
+        let next = texts::put_code_reply(buf, at, 0, checksummed);
         one_ended(a, s, next)
     } else {
         one_ended(31, s, at)
@@ -65,14 +66,14 @@ fn say_code(
     selected: u8,
     s: Supply,
     code: u8,
-    summed: bool,
+    checksummed: bool,
     buf: &mut [u8],
     at: usize,
 ) -> Ended
-    ensures { λ e. ⌜ (e .all ≡ false) × ((l : Line) → l .selected ≡ selected → Ends u l s (faulty (replyOf summed (codeText code))) e (now (buf .entry)) at (now (buf .exit))) ⌝ }
+    ensures { λ e. ⌜ (e .all ≡ false) × ((l : Line) → l .selected ≡ selected → EndsByClass u l s (faulty (replyOf checksummed (codeText code))) e (now (buf .entry)) at (now (buf .exit))) ⌝ }
 {
     if serial::has_supply(u, selected) {
-        let next = texts::put_code_reply(buf, at, code, summed);
+        let next = texts::put_code_reply(buf, at, code, checksummed);
         one_ended(selected, s, next)
     } else {
         one_ended(selected, s, at)
@@ -85,17 +86,17 @@ fn tell_one(
     selected: u8,
     s: Supply,
     a: Act,
-    summed: bool,
+    checksummed: bool,
     buf: &mut [u8],
     at: usize,
 ) -> Ended
-    ensures { λ e. ⌜ (e .all ≡ false) × ((l : Line) → l .selected ≡ selected → Asked u l s a summed e (now (buf .entry)) at (now (buf .exit))) ⌝ }
+    ensures { λ e. ⌜ (e .all ≡ false) × ((l : Line) → l .selected ≡ selected → Asked u l s a checksummed e (now (buf .entry)) at (now (buf .exit))) ⌝ }
 {
     let model = serial::model_at(u, selected);
     if model == 255 {
         return one_ended(selected, s, at);
     }
-    let done = reply::obey(model, s, a, summed, buf, at);
+    let done = reply::obey(model, s, a, checksummed, buf, at);
     let supply = done.supply;
     let next = done.next;
     one_ended(selected, supply, next)
@@ -117,10 +118,10 @@ pub fn end_one(
 {
     let heard = serial::hear(kept, count, spoiled);
     let asks = heard.asks;
-    let summed = heard.summed;
+    let checksummed = heard.checksummed;
     match asks {
-        Asks::Select(a) => select_slot(u, s, a, summed, buf, at),
-        Asks::BadSelect(c) => say_code(u, selected, s, c, summed, buf, at),
+        Asks::Select(a) => select_slot(u, s, a, checksummed, buf, at),
+        Asks::BadSelect(c) => say_code(u, selected, s, c, checksummed, buf, at),
         Asks::Everyone(order) => {
             Ended {
                 selected,
@@ -131,7 +132,7 @@ pub fn end_one(
             }
         }
         Asks::Nobody => one_ended(selected, s, at),
-        Asks::One(a) => tell_one(u, selected, s, a, summed, buf, at),
-        Asks::Error(c) => say_code(u, selected, s, c, summed, buf, at),
+        Asks::One(a) => tell_one(u, selected, s, a, checksummed, buf, at),
+        Asks::Error(c) => say_code(u, selected, s, c, checksummed, buf, at),
     }
 }

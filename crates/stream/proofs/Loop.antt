@@ -1,4 +1,4 @@
--- The loop of a program: each turn continues the turns before it, what waits for other bytes is short, so that a read has room, and
+-- The loop of a program: each cycle continues the cycles before it, what waits for other bytes is short, so that a read has room, and
 -- the reads that may be made and the bytes that are left grow fewer.
 use Prim.Native.Nat.{ℕ, _+_, _-_, _*_, _≤_, _<_}
 use mathlib.Core.Path.{_≡_, refl, sym, ap, _∙_}
@@ -14,25 +14,25 @@ use Rattle.buffers.specs.Printed.{printed}
 use Rattle.wire.specs.Rack as wire
 use Rattle.supply.specs.declared.Supply.{Supply}
 use Rattle.engine.specs.Engine.{ran, fieldsOn}
-use Rattle.engine.proofs.Turns.{turn-within, turn-spends, turn-all, all-ended}
+use Rattle.engine.proofs.Cycles.{cycle-within, cycle-spends, cycle-all, all-ended}
 use Rattle.console.specs.Mendable.{mendable}
-use Rattle.cuts.specs.Cuts.{Waits}
-use Rattle.cuts.proofs.Cuts.{waits-is, waiting-short}
+use Rattle.splits.specs.Splits.{Waits}
+use Rattle.splits.proofs.Splits.{waits-is, waiting-short}
 use Rattle.stream.specs.declared.Block.{Block}
-use Rattle.stream.specs.Stream.{unworked, Refilled, goesOn, Turns, none-yet, turn-on}
+use Rattle.stream.specs.Stream.{unworked, Refilled, goesOn, Cycles, none-yet, cycle-on}
 
--- where the loop stands: the turns that were made, and that it goes on only where no field was refused or where bytes may be read
+-- where the loop stands: the cycles that were made, and that it goes on only where no field was refused or where bytes may be read
 pub record At (v q : wire.Rack Supply) (room : List ℕ) (b : Block) (code : ℕ) (more : Bool) : Type 0 where
   pub low : b .from ≤ b .end
   pub high : b .end ≤ length room
   pub goes : more ≡ true → (code ≡ 0 → ⊥) → (length (unworked room b) ≤ 18) × (0 < b .reads)
   pub read : List ℕ
   pub handed : List ℕ
-  pub turns : Turns v 10 read (unworked room b) handed q code
+  pub cycles : Cycles v 10 read (unworked room b) handed q code
 
 pub at-start : (v : wire.Rack Supply) (room : List ℕ) (b : Block) → b ≡ record { from = 0; end = 0; brought = true; failed = false; reads = 18446744073709551615 } → At v v room b 2 true
 at-start v room b e =
-    rw e (record { low = omega arith; high = omega arith; goes = λ t z. (omega arith, omega arith); read = []; handed = []; turns = none-yet })
+    rw e (record { low = omega arith; high = omega arith; goes = λ t z. (omega arith, omega arith); read = []; handed = []; cycles = none-yet })
 
 by-code : {A : Type 0} (code : ℕ) → (code ≡ 0 → A) → ((code ≡ 0 → ⊥) → A) → A
 by-code {A = A} code f g = byTest (eqb code 0) refl
@@ -48,7 +48,7 @@ has-room g long z = (omega (arith, long, g .goes refl z .0), g .goes refl z .1)
 abbrev Refills : ℕ → List ℕ → List ℕ → Block → Block → Type 0
 Refills code room room′ b n = (code ≡ 0 → (n ≡ b) × (room′ ≡ room)) × ((code ≡ 0 → ⊥) → Refilled (unworked room b) room′ b n)
 
--- the bytes for the next turn: those that were kept, and some behind them
+-- the bytes for the next cycle: those that were kept, and some behind them
 record Ready (room room′ : List ℕ) (b n : Block) : Type 0 where
   pub low : n .from ≤ n .end
   pub high : n .end ≤ length room′
@@ -74,7 +74,7 @@ module _ {v q : wire.Rack Supply} {room room′ : List ℕ} {b n : Block} {code 
             is = rw (d .from-is) (sym (take-append-drop (length kept) all) ∙ ap (λ (l : List ℕ). l ++ drop (length kept) all) (d .first));
           }
 
--- the block behind a turn that used k bytes
+-- the block behind a cycle that used k bytes
 abbrev pub past : Block → ℕ → Block
 past n k = record { from = n .from + k; end = n .end; brought = n .brought; failed = n .failed; reads = n .reads }
 
@@ -84,7 +84,7 @@ goes-by sent code n t z =
     let both = and-eq-true-iff ((eqb code 2 || eqb code 5) && n .brought) (ltb 0 (n .reads)) .0 (rw (ne-eqb code 0 z) at either) in
     (waits-is code (and-eq-true-iff (eqb code 2 || eqb code 5) (n .brought) .0 (both .0) .0), ltb-true 0 (n .reads) (both .1))
 
--- the loop ends: a read makes the reads fewer, and a turn behind one that was not refused makes the bytes fewer
+-- the loop ends: a read makes the reads fewer, and a cycle behind one that was not refused makes the bytes fewer
 abbrev pub weight : Block → ℕ → ℕ
 weight b code = b .reads * 8194 + (b .end - b .from + bit (eqb code 0))
 
@@ -108,8 +108,8 @@ weighs-less b n code k after low high some same fewer within spends = by-code co
     less z true = omega (arith, some z, fewer z, high)
     less z false = omega (arith, some z, fewer z, high)
 
--- A TURN MORE: what refill and the turn behind it leave
-pub record OneTurn (v p : wire.Rack Supply) (room : List ℕ) (b n : Block) (code k after : ℕ) (sent : Bool) : Type 0 where
+-- A CYCLE MORE: what refill and the cycle behind it leave
+pub record OneCycle (v p : wire.Rack Supply) (room : List ℕ) (b n : Block) (code k after : ℕ) (sent : Bool) : Type 0 where
   pub within : n .from + k ≤ n .end
   pub less : weight (past n k) after < weight b code
   pub at : At v p room (past n k) after (goesOn sent after (mendable after) (past n k))
@@ -124,7 +124,7 @@ module _ {v q : wire.Rack Supply} {room room′ : List ℕ} {b n : Block} {code 
   y = ready g f
 
   within : k ≤ length s
-  within = omega (arith, turn-within s q p 0 k [] said after stop (omega arith) e)
+  within = omega (arith, cycle-within s q p 0 k [] said after stop (omega arith) e)
 
   inside : n .from + k ≤ n .end
   inside = omega (arith, within, length-drop (n .from) (take (n .end) room′), length-take-le (n .end) room′ (y .high), y .low)
@@ -133,13 +133,13 @@ module _ {v q : wire.Rack Supply} {room room′ : List ℕ} {b n : Block} {code 
   left = sym (drop-drop k (n .from) (take (n .end) room′))
 
   short : (after ≡ 0 → ⊥) → Waits after → length (unworked room′ (past n k)) ≤ 18
-  short z w = rw left (waiting-short p (drop k s) after (all-ended s [] q p k said after (turn-all s [] q p k said after stop e z)) w)
+  short z w = rw left (waiting-short p (drop k s) after (all-ended s [] q p k said after (cycle-all s [] q p k said after stop e z)) w)
 
-  pub a-turn : (sent : Bool) → OneTurn v p room′ b n code k after sent
-  a-turn sent =
+  pub a-cycle : (sent : Bool) → OneCycle v p room′ b n code k after sent
+  a-cycle sent =
       record {
         within = inside;
-        less = weighs-less b n code k after (g .low) (omega (arith, y .high, long)) (λ z. g .goes refl z .1) (λ z. f .0 z .0) (λ z. f .1 z .reads-is) inside (turn-spends s q p 0 k [] said after stop (omega arith) e);
+        less = weighs-less b n code k after (g .low) (omega (arith, y .high, long)) (λ z. g .goes refl z .1) (λ z. f .0 z .0) (λ z. f .1 z .reads-is) inside (cycle-spends s q p 0 k [] said after stop (omega arith) e);
         at =
             record {
               low = inside;
@@ -147,7 +147,7 @@ module _ {v q : wire.Rack Supply} {room room′ : List ℕ} {b n : Block} {code 
               goes = λ t z. let w = goes-by sent after (past n k) t z in (short z (w .0), w .1);
               read = g .read ++ y .new;
               handed = g .handed ++ map (printed 10) said;
-              turns = rw (left, y .is) (turn-on (g .read) (unworked room b) (g .handed) q code (g .turns) (y .new) stop p k said after (e ∙ ap (fieldsOn stop q) (y .is)));
+              cycles = rw (left, y .is) (cycle-on (g .read) (unworked room b) (g .handed) q code (g .cycles) (y .new) stop p k said after (e ∙ ap (fieldsOn stop q) (y .is)));
             };
         sends = λ t. and-eq-true-iff sent _ .0 t .0;
       }

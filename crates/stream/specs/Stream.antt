@@ -1,4 +1,4 @@
--- THE INPUT AS A STREAM: the bytes that wait to be worked, the turns that work them, and what these hand on to be written.
+-- THE INPUT AS A STREAM: the bytes that wait to be worked, the cycles that work them, and what these hand on to be written.
 use Prim.Native.Nat.{ℕ, _-_, _≤_}
 use mathlib.Core.Path.{_≡_}
 use mathlib.Core.Bool.{Bool, true, false, not, _&&_, _||_}
@@ -25,7 +25,7 @@ pub record Refilled (kept room : List ℕ) (b n : Block) : Type 0 where
   pub failed-none : n .failed ≡ true → n .brought ≡ false
   pub reads-is : n .reads ≡ b .reads - 1
 
--- a program goes on behind a turn where what it drew was written, and a full buffer stopped it, or the refusal waits for bytes and the last
+-- a program goes on behind a cycle where what it drew was written, and a full buffer stopped it, or the refusal waits for bytes and the last
 -- read brought some and another may be made
 abbrev pub goesOn : Bool → ℕ → Bool → Block → Bool
 goesOn sent code waits b = sent && (eqb code 0 || ((waits && b .brought) && ltb 0 (b .reads)))
@@ -34,15 +34,15 @@ goesOn sent code waits b = sent && (eqb code 0 || ((waits && b .brought) && ltb 
 abbrev pub told : Bool → ℕ → Block → ℕ
 told sent code b = pick ((sent && not (b .failed)) && ltb (b .from) (b .end)) code 0
 
--- turns on the rack v: s are the bytes read so far, `kept` those of them that are not worked, `handed` what was handed on to be written,
--- q the rack by now, n the number of the refusal that ended the last turn, or 0. A turn works the fields of what is kept and of the
+-- cycles on the rack v: s are the bytes read so far, `kept` those of them that are not worked, `handed` what was handed on to be written,
+-- q the rack by now, n the number of the refusal that ended the last cycle, or 0. A cycle works the fields of what is kept and of the
 -- bytes c read since, up to a refusal or to where it is stopped, and hands on what they said, each line ended by the byte `ending`
-pub data Turns (v : wire.Rack Supply) (ending : ℕ) : (s kept handed : List ℕ) (q : wire.Rack Supply) (n : ℕ) → Type 0 where
-  none-yet : Turns v ending [] [] [] v 2
-  turn-on :
-      (s kept handed : List ℕ) (q : wire.Rack Supply) (n : ℕ) → Turns v ending s kept handed q n
+pub data Cycles (v : wire.Rack Supply) (ending : ℕ) : (s kept handed : List ℕ) (q : wire.Rack Supply) (n : ℕ) → Type 0 where
+  none-yet : Cycles v ending [] [] [] v 2
+  cycle-on :
+      (s kept handed : List ℕ) (q : wire.Rack Supply) (n : ℕ) → Cycles v ending s kept handed q n
       → (c : List ℕ) (stop : ℕ → Bool) (p : wire.Rack Supply) (used : ℕ) (said : List ℕ) (m : ℕ) → ran p used said m ≡ fieldsOn stop q (kept ++ c)
-      → Turns v ending (s ++ c) (drop used (kept ++ c)) (handed ++ map (printed ending) said) p m
+      → Cycles v ending (s ++ c) (drop used (kept ++ c)) (handed ++ map (printed ending) said) p m
 
 -- the true reply stream of an input: what all its fields say, up to one that is refused
 abbrev pub replyStream : wire.Rack Supply → ℕ → List ℕ → List ℕ
@@ -52,11 +52,11 @@ replyStream v ending s = map (printed ending) (allFields v s .said)
 -- of it is the stream of the bytes that are kept and those to come, on the rack by now
 abbrev pub HandedFirst : Type 0
 HandedFirst =
-    (v : wire.Rack Supply) (ending : ℕ) (s kept handed : List ℕ) (q : wire.Rack Supply) (n : ℕ) → Turns v ending s kept handed q n
+    (v : wire.Rack Supply) (ending : ℕ) (s kept handed : List ℕ) (q : wire.Rack Supply) (n : ℕ) → Cycles v ending s kept handed q n
     → (later : List ℕ) → replyStream v ending (s ++ later) ≡ handed ++ replyStream q ending (kept ++ later)
 
--- and where a refusal ended the last turn it is all of it: nothing is held back
+-- and where a refusal ended the last cycle it is all of it: nothing is held back
 abbrev pub AllHanded : Type 0
 AllHanded =
-    (v : wire.Rack Supply) (ending : ℕ) (s kept handed : List ℕ) (q : wire.Rack Supply) (n : ℕ) → Turns v ending s kept handed q n
+    (v : wire.Rack Supply) (ending : ℕ) (s kept handed : List ℕ) (q : wire.Rack Supply) (n : ℕ) → Cycles v ending s kept handed q n
     → (n ≡ 0 → ⊥) → handed ≡ replyStream v ending s

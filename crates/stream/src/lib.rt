@@ -1,3 +1,4 @@
+// Layer outside.
 // The input as a stream: the bytes that are there and not worked yet, and the read that brings more of them.
 ghost use mathlib.Core.Path.{_≡_};
 ghost use mathlib.Core.Bool.{true, false};
@@ -47,7 +48,7 @@ pub fn refill(room: &mut [u8], b: Block, code: u8) -> Block
     }
 }
 
-// Whether a program goes on behind a turn: what it drew is written, and it was stopped by a full buffer, or more bytes may come and mend
+// Whether a program goes on behind a cycle: what it drew is written, and it was stopped by a full buffer, or more bytes may come and mend
 // the refusal.
 pub fn goes_on(sent: bool, code: u8, waits: bool, b: Block) -> bool
     ensures { λ r. ⌜ r ≡ goesOn sent code waits b ⌝ }

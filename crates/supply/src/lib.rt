@@ -1,3 +1,4 @@
+// Layer supply.
 // The plain supply: its state, whatever it can be asked, and FLT. The model goes beside the state.
 ghost use mathlib.Core.Path.{_≡_};
 ghost use lib.Dec.{leb};
@@ -98,7 +99,7 @@ pub enum Word {
 }
 
 // An answer by meaning: a figure with its number of decimals, a word, or a byte.
-pub enum Answer {
+pub enum QueryAnswer {
     Figure(u8, u64),
     Says(Word),
     Hex(u8),

@@ -30,14 +30,14 @@ module _ {b : List ℕ} {at : ℕ} (t : Bool) (xs : List ℕ) where
   unfolding ending
   put-bare-end e f = rw e f
 
-  pub put-summed-end :
+  pub put-checksummed-end :
       t ≡ true → (x : ℕ) → x ≡ checksum xs
       → {p : ℕ} {b₁ : List ℕ} {q : ℕ} {b₂ : List ℕ} {r : ℕ} {b₃ : List ℕ}
       → Put b at (36 ∷ []) p b₁ → Put b₁ p (hexPair x) q b₂ → Put b₂ q (13 ∷ []) r b₃ → Put b at (ending t xs) r b₃
   unfolding ending
-  put-summed-end e x ex f g h = rw (e, ← ex) (put-then f (put-then g h))
+  put-checksummed-end e x ex f g h = rw (e, ← ex) (put-then f (put-then g h))
 
--- a text and its ending are the reply: with room the sum is of the whole text, and without room there is no ending to place
+-- a text and its ending are the reply: with room the checksum is of the whole text, and without room there is no ending to place
 pub put-reply :
     {b : List ℕ} {at : ℕ} (t : Bool) (xs : List ℕ) {p : ℕ} {b₁ : List ℕ} {q : ℕ} {b₂ : List ℕ}
     → Put b at xs p b₁ → Put b₁ p (ending t (take (p - at) (drop at b₁))) q b₂ → Put b at (replyOf t xs) q b₂

@@ -1,4 +1,4 @@
--- The text of a reply: OK, a code or an answer, its sum where the line had one, and CR.
+-- The text of a reply: OK, a code or an answer, its checksum where the line had one, and CR.
 use Prim.Native.Nat.{ℕ, _/_, _%_}
 use mathlib.Core.List.{List, [], _∷_, _++_}
 use mathlib.Core.Bool.{Bool, true, false}
@@ -9,8 +9,8 @@ use Rattle.prints.specs.Figure.{figure}
 use Rattle.hex.specs.Hex.{hexDigit, hexPair, checksum}
 use Rattle.supply.specs.declared.Word.{Word}
 use Rattle.supply.specs.declared.Word.the-variants.{On, Off, Loc, Rem, Llo, Cc, Cv}
-use Rattle.supply.specs.declared.Answer.{Answer}
-use Rattle.supply.specs.declared.Answer.the-variants.{Figure, Says, Hex}
+use Rattle.supply.specs.declared.QueryAnswer.{QueryAnswer}
+use Rattle.supply.specs.declared.QueryAnswer.the-variants.{Figure, Says, Hex}
 
 -- code 0 is OK; any other reads as its two digits with a 0 between them, so that 0xC5 is C05
 unfoldable pub codeText : ℕ → List ℕ
@@ -25,15 +25,15 @@ wordText Llo = codes "LLO"
 wordText Cc = codes "CC"
 wordText Cv = codes "CV"
 
-unfoldable pub answerText : Answer → List ℕ
+unfoldable pub answerText : QueryAnswer → List ℕ
 answerText (Figure k v) = figure k v
 answerText (Says w) = wordText w
 answerText (Hex b) = hexPair b
 
--- what ends the reply xs: $ (36) and its sum where the line had a right one, then CR (13)
+-- what ends the reply xs: $ (36) and its checksum where the line had a right one, then CR (13)
 unfoldable pub ending : Bool → List ℕ → List ℕ
 ending true xs = 36 ∷ (hexPair (checksum xs) ++ (13 ∷ []))
 ending false xs = 13 ∷ []
 
 abbrev pub replyOf : Bool → List ℕ → List ℕ
-replyOf summed xs = xs ++ ending summed xs
+replyOf checksummed xs = xs ++ ending checksummed xs

@@ -1,9 +1,10 @@
-// The text of a reply: OK, a code or an answer, its sum where asked for, and CR, placed into a lent buffer.
+// Layer reply.
+// The text of a reply: OK, a code or an answer, its checksum where asked for, and CR, placed into a lent buffer.
 ghost use Prim.Native.Nat.{_-_, _≤_};
 ghost use lib.ListN.{take, drop};
 ghost use Rattle.base.specs.Put.{Put};
 ghost use Rattle.texts.specs.Texts.{codeText, wordText, answerText, ending, replyOf};
-use supply::Answer;
+use supply::QueryAnswer;
 use supply::Word;
 
 // Places OK or a code.
@@ -33,26 +34,26 @@ fn put_word(buf: &mut [u8], at: usize, w: Word) -> usize
     }
 }
 
-fn put_answer(buf: &mut [u8], at: usize, a: Answer) -> usize
+fn put_answer(buf: &mut [u8], at: usize, a: QueryAnswer) -> usize
     ensures { λ r. ⌜ Put (now (buf .entry)) at (answerText a) r (now (buf .exit)) ⌝ }
 {
     match a {
-        Answer::Figure(k, v) => prints::put_figure(buf, at, k as usize, v),
-        Answer::Says(w) => put_word(buf, at, w),
-        Answer::Hex(b) => hex::put_hex(buf, at, b),
+        QueryAnswer::Figure(k, v) => prints::put_figure(buf, at, k as usize, v),
+        QueryAnswer::Says(w) => put_word(buf, at, w),
+        QueryAnswer::Hex(b) => hex::put_hex(buf, at, b),
     }
 }
 
-// Ends a reply that stands from one index to another: a sum, where asked for, and CR.
-fn put_end(buf: &mut [u8], from: usize, at: usize, summed: bool) -> usize
+// Ends a reply that stands from one index to another: a checksum, where asked for, and CR.
+fn put_end(buf: &mut [u8], from: usize, at: usize, checksummed: bool) -> usize
     requires { ⌜ from ≤ at ⌝ }
-    ensures { λ r. ⌜ Put (now (buf .entry)) at (ending summed (take (at - from) (drop from (now (buf .entry))))) r (now (buf .exit)) ⌝ }
+    ensures { λ r. ⌜ Put (now (buf .entry)) at (ending checksummed (take (at - from) (drop from (now (buf .entry))))) r (now (buf .exit)) ⌝ }
 {
     if buf.len() <= at {
         return at;
     }
-    if summed {
-        let x = hex::sum(&buf[from..at]);
+    if checksummed {
+        let x = hex::checksum(&buf[from..at]);
         let p = base::put_byte(buf, at, b'$');
         let q = hex::put_hex(buf, p, x);
         base::put_byte(buf, q, 13)
@@ -62,17 +63,17 @@ fn put_end(buf: &mut [u8], from: usize, at: usize, summed: bool) -> usize
 }
 
 // Places a whole reply that is OK or a code.
-pub fn put_code_reply(buf: &mut [u8], at: usize, code: u8, summed: bool) -> usize
-    ensures { λ r. ⌜ Put (now (buf .entry)) at (replyOf summed (codeText code)) r (now (buf .exit)) ⌝ }
+pub fn put_code_reply(buf: &mut [u8], at: usize, code: u8, checksummed: bool) -> usize
+    ensures { λ r. ⌜ Put (now (buf .entry)) at (replyOf checksummed (codeText code)) r (now (buf .exit)) ⌝ }
 {
     let p = put_code(buf, at, code);
-    put_end(buf, at, p, summed)
+    put_end(buf, at, p, checksummed)
 }
 
 // Places a whole reply that is an answer.
-pub fn put_answer_reply(buf: &mut [u8], at: usize, a: Answer, summed: bool) -> usize
-    ensures { λ r. ⌜ Put (now (buf .entry)) at (replyOf summed (answerText a)) r (now (buf .exit)) ⌝ }
+pub fn put_answer_reply(buf: &mut [u8], at: usize, a: QueryAnswer, checksummed: bool) -> usize
+    ensures { λ r. ⌜ Put (now (buf .entry)) at (replyOf checksummed (answerText a)) r (now (buf .exit)) ⌝ }
 {
     let p = put_answer(buf, at, a);
-    put_end(buf, at, p, summed)
+    put_end(buf, at, p, checksummed)
 }

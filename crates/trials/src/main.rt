@@ -1,3 +1,4 @@
+// Layer checks.
 // Tries the supply on a table of cases, its standard input: a line of 38 numbers for each case, with
 // what is expected. A second model of the supply, which shares nothing with this one, writes the
 // table (tests/src/trial.rs tells what each number is). Prints how many cases there were and how

@@ -2,10 +2,10 @@
 // state and the act of the numbers, and tells whether the supply does what the row expects. tests/src/trial.rs tells what
 // each number is.
 use supply::Act;
-use supply::Answer;
 use supply::Key;
 use supply::Order;
 use supply::Query;
+use supply::QueryAnswer;
 use supply::Supply;
 use supply::Target;
 use supply::Word;
@@ -200,11 +200,11 @@ fn answer_is(row: &[u64; CELLS], kind: u64, a: u64, b: u64) -> bool {
     (cell(row, ANSWER, 0) == kind) & (cell(row, ANSWER, 1) == a) & (cell(row, ANSWER, 2) == b)
 }
 
-fn answer_agrees(row: &[u64; CELLS], a: Answer) -> bool {
+fn answer_agrees(row: &[u64; CELLS], a: QueryAnswer) -> bool {
     match a {
-        Answer::Figure(decimals, n) => answer_is(row, 1, decimals as u64, n),
-        Answer::Says(w) => answer_is(row, 2, word_number(w), 0),
-        Answer::Hex(b) => answer_is(row, 3, b as u64, 0),
+        QueryAnswer::Figure(decimals, n) => answer_is(row, 1, decimals as u64, n),
+        QueryAnswer::Says(w) => answer_is(row, 2, word_number(w), 0),
+        QueryAnswer::Hex(b) => answer_is(row, 3, b as u64, 0),
     }
 }
 

@@ -1,3 +1,4 @@
+// Layer checks.
 // Vectors that run, a line each: entries as they are read, sums as they are printed, and each model's readings at a count of 65,535.
 use libc::STDOUT_FILENO;
 
@@ -28,12 +29,12 @@ fn entry(s: &[u8]) {
     line(&mut buf, r);
 }
 
-// A line with its sum.
-fn summed(s: &[u8]) {
+// A line with its checksum.
+fn checksummed(s: &[u8]) {
     let mut buf = [0u8; 64];
     let p = base::put_text(&mut buf, 0, s);
     let q = base::put_byte(&mut buf, p, b'$');
-    let r = hex::put_hex(&mut buf, q, hex::sum(s));
+    let r = hex::put_hex(&mut buf, q, hex::checksum(s));
     line(&mut buf, r);
 }
 
@@ -78,10 +79,10 @@ fn no_numbers() {
 }
 
 fn sums() {
-    summed(b"PV?");
-    summed(b"0.0000");
-    summed(b"STT?");
-    summed(b"STAT?");
+    checksummed(b"PV?");
+    checksummed(b"0.0000");
+    checksummed(b"STT?");
+    checksummed(b"STAT?");
 }
 
 fn main() {

@@ -7,7 +7,7 @@ use Rattle.base.specs.Choice.{pick}
 use Rattle.base.proofs.Choice.{pick-keeps}
 use Rattle.wire.specs.Machine.{Every, given, flat}
 use Rattle.wire.specs.Wire.{Entry, line, Delivery, one, all, say, Class, select, faulty, global, other, Item, byte, event, Parsed, refuse, Call, Grammar, fitted, nobody, parse}
-use Rattle.wire.specs.Share.{items, stream, Typed, typed, ended, pieces, selected, handed, routes, brought, forSlot, shareOf}
+use Rattle.wire.specs.Share.{items, stream, TypedLine, typed, ended, arrivals, selected, handed, routes, brought, forSlot, shareOf}
 use Rattle.wire.specs.Entries.{inItem, Holds, SharesHold}
 use Rattle.wire.specs.declared.Setup.{Setup}
 
@@ -47,16 +47,16 @@ module _ (γ : Grammar) (P : Entry → Type 0) (h : Holds γ P) (u : Setup) wher
   handed-has sel e other p = given-has inDelivery (fitted u sel) (one sel e) p
 
   routes-have : (sel : ℕ) (bytes : List ℕ) (is : List Item) → Every (inItem P) is
-      → Every inDelivery (routes γ u sel (pieces bytes is))
+      → Every inDelivery (routes γ u sel (arrivals bytes is))
   routes-have sel bytes [] p = tt
   routes-have sel bytes (event a e ∷ is) p = (p .0, routes-have sel bytes is (p .1))
   routes-have sel bytes (byte b ∷ is) p = byEnd (λ s bs. routes-have s bs is (p .1)) (eqb b 13)
     where
-      byEnd : ((s : ℕ) (bs : List ℕ) → Every inDelivery (routes γ u s (pieces bs is)))
+      byEnd : ((s : ℕ) (bs : List ℕ) → Every inDelivery (routes γ u s (arrivals bs is)))
           → (t : Bool)
-          → Every inDelivery (routes γ u sel (pick t (ended (typed bytes) ∷ pieces [] is) (pieces (bytes ++ b ∷ []) is)))
+          → Every inDelivery (routes γ u sel (pick t (ended (typed bytes) ∷ arrivals [] is) (arrivals (bytes ++ b ∷ []) is)))
       byEnd ih true =
-          let t : Typed = typed bytes in
+          let t : TypedLine = typed bytes in
           let c : Class = γ .classOf (t .kept) (t .spoiled) in
           every-append inDelivery (handed u sel (line (t .kept) (t .spoiled)) c) _
           (handed-has sel (line (t .kept) (t .spoiled)) c (h .lines (t .kept) (t .spoiled)))

@@ -11,7 +11,7 @@ use Rattle.base.proofs.Choice.{bit-small}
 use Rattle.base.specs.Text.{codes}
 use Rattle.wire.specs.Wire.{Entry, field, line, Class, select, faulty, global, other, byte, event, Parsed, refuse, accept, Grammar, Call, modelAt, parse, charOn, byteOn}
 use Rattle.wire.specs.Share.{typed, brought, shareOf}
-use Rattle.wire.specs.Rack.{Plain, Answer, refused, done, callOf, run, slot}
+use Rattle.wire.specs.Rack.{Plain, CallResult, refused, done, callOf, run, slot}
 use Rattle.wire.specs.Laws.{Trips, Laws}
 use Rattle.wire.specs.Demand3.{TrippedBy}
 use Rattle.wire.specs.declared.Setup.{Setup}
@@ -119,7 +119,7 @@ unfolding number parse setup list serial grammar reading
 numbers = refl
 
 -- what one call more answers: the bytes used, and the ADR's reply before that of the supply, which is tripped
-told : Answer Toy → List ℕ
+told : CallResult Toy → List ℕ
 told (refused n) = []
 told (done r used t) = used ∷ t
 

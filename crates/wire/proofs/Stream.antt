@@ -9,7 +9,7 @@ use borrow.Author.Tests.{eqb-true}
 use Rattle.base.specs.Choice.{pick}
 use Rattle.wire.specs.Machine.{given, keep, flat}
 use Rattle.wire.specs.Wire.{Entry, line, Delivery, one, all, say, Class, select, faulty, global, other, Grammar, fitted, Wire, quiet, followed, Item, byte, event, Call, nobody, freshWire, parse, byClass, charOn, byteOn, itemOn, scan}
-use Rattle.wire.specs.Share.{items, stream, Typed, typing, typed, pieces, selected, handed, routes, brought, forSlot, shareOf}
+use Rattle.wire.specs.Share.{items, stream, TypedLine, typing, typed, arrivals, selected, handed, routes, brought, forSlot, shareOf}
 use Rattle.wire.specs.declared.Setup.{Setup}
 use Rattle.wire.proofs.Machine.{keep-append, flat-append}
 
@@ -28,14 +28,14 @@ sent-one true a e = refl
 sent-one false a e = refl
 
 -- a choice of what is typed, made before or after it is put on the line
-pushed : (f : Typed → Wire) (p q r : Bool) (w x y z : Typed) → pick p (f w) (pick q (f x) (pick r (f y) (f z))) ≡ f (pick p w (pick q x (pick r y z)))
+pushed : (f : TypedLine → Wire) (p q r : Bool) (w x y z : TypedLine) → pick p (f w) (pick q (f x) (pick r (f y) (f z))) ≡ f (pick p w (pick q x (pick r y z)))
 pushed f true q r w x y z = refl
 pushed f false true r w x y z = refl
 pushed f false false true w x y z = refl
 pushed f false false false w x y z = refl
 
 -- the line with this typed and this address selected
-abbrev pub wireOf : ℕ → Typed → Wire
+abbrev pub wireOf : ℕ → TypedLine → Wire
 wireOf sel t = record { kept = t .kept; spoiled = t .spoiled; sel = sel }
 
 typed-none : typed [] ≡ record { kept = []; spoiled = false }
@@ -70,21 +70,21 @@ module _ (γ : Grammar) (u : Setup) where
   unfolding byteOn
   on-other w b r = rw r refl
 
-  pub on-char : (sel : ℕ) (t : Typed) (b : ℕ) → eqb b 13 ≡ false → byteOn γ u (wireOf sel t) b ≡ quiet (wireOf sel (typing t b))
+  pub on-char : (sel : ℕ) (t : TypedLine) (b : ℕ) → eqb b 13 ≡ false → byteOn γ u (wireOf sel t) b ≡ quiet (wireOf sel (typing t b))
   unfolding charOn
   on-char sel t b r =
       on-other (wireOf sel t) b r ∙ ap quiet (pushed (wireOf sel) (eqb b 10) (eqb b 8) (ltb (length (t .kept)) 64) t _ _ _)
 
   -- from any line under way, whose bytes since the last CR are bs
-  one-pass : (sel : ℕ) (bs : List ℕ) (is : List Item) → keep brings (scan γ u (wireOf sel (typed bs)) is .sent) ≡ routes γ u sel (pieces bs is)
+  one-pass : (sel : ℕ) (bs : List ℕ) (is : List Item) → keep brings (scan γ u (wireOf sel (typed bs)) is .sent) ≡ routes γ u sel (arrivals bs is)
   one-pass sel bs [] = refl
   one-pass sel bs (event a e ∷ is) = ap {B = List Delivery} (λ x. one a e ∷ x) (one-pass sel bs is)
   one-pass sel bs (byte b ∷ is) = byCR (λ s ys. one-pass s ys is) (eqb b 13) refl
     where
       IH : Type 0
-      IH = (s : ℕ) (ys : List ℕ) → keep brings (scan γ u (wireOf s (typed ys)) is .sent) ≡ routes γ u s (pieces ys is)
+      IH = (s : ℕ) (ys : List ℕ) → keep brings (scan γ u (wireOf s (typed ys)) is .sent) ≡ routes γ u s (arrivals ys is)
 
-      byCR : IH → (t : Bool) → eqb b 13 ≡ t → keep brings (scan γ u (wireOf sel (typed bs)) (byte b ∷ is) .sent) ≡ routes γ u sel (pieces bs (byte b ∷ is))
+      byCR : IH → (t : Bool) → eqb b 13 ≡ t → keep brings (scan γ u (wireOf sel (typed bs)) (byte b ∷ is) .sent) ≡ routes γ u sel (arrivals bs (byte b ∷ is))
       byCR ih true q =
           rw (eqb-true b 13 q, on-cr, keep-append brings, at-cr u, after-cr u)
           (ap (λ (x : List Delivery). handed u sel (line (typed bs .kept) (typed bs .spoiled)) (γ .classOf (typed bs .kept) (typed bs .spoiled)) ++ x)

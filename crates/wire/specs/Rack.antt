@@ -24,9 +24,9 @@ pub record Rack (S : Type 0) : Type 0 where
   pub wire : Wire
 
 -- what a call answers: the number of a refusal; or the new rack, the bytes used and the reply
-pub data Answer (S : Type 0) : Type 0 where
-  refused : ℕ → Answer S
-  done : Rack S → ℕ → List ℕ → Answer S
+pub data CallResult (S : Type 0) : Type 0 where
+  refused : ℕ → CallResult S
+  done : Rack S → ℕ → List ℕ → CallResult S
 
 module _ (M : Plain) where
   open Plain M using (State, step, reply, fresh, grammar, closing)
@@ -62,19 +62,19 @@ module _ (M : Plain) where
   abbrev pub drawnSince : List State → Rack State → Sent → List ℕ
   drawnSince ss r s = replies (r .setup) (r .slots) (s .sent) ++ closing (r .setup) ss (moved r s .slots)
 
-  abbrev pub answered : Rack State → ℕ → Sent → Answer State
+  abbrev pub answered : Rack State → ℕ → Sent → CallResult State
   answered r used s = done (moved r s) used (drawnSince (r .slots) r s)
 
-  abbrev pub answerOf : Rack State → Parsed → Answer State
+  abbrev pub answerOf : Rack State → Parsed → CallResult State
   answerOf r (refuse n) = refused n
   answerOf r (accept used is) = answered r used (scan grammar (r .setup) (r .wire) is)
 
   -- ONE CALL
-  unfoldable pub callOf : Rack State → Call → Answer State
+  unfoldable pub callOf : Rack State → Call → CallResult State
   callOf r c = answerOf r (parse grammar (r .setup) c)
 
   -- the rack that the call returned or, refusing, left
-  abbrev pub after : Rack State → Answer State → Rack State
+  abbrev pub after : Rack State → CallResult State → Rack State
   after r (refused n) = r
   after r (done q used t) = q
 

@@ -21,13 +21,13 @@ abbrev pub stream : Grammar → Setup → List Call → List Item
 stream γ u calls = flat (λ c. items (parse γ u c)) calls
 
 -- a line as typed
-pub record Typed : Type 0 where
+pub record TypedLine : Type 0 where
   pub kept : List ℕ
   pub spoiled : Bool
 
 -- one byte more of a line, not its CR: LF does nothing, a backspace takes the last kept character back, and past 64 kept
 -- characters a byte is lost and the line spoiled
-abbrev pub typing : Typed → ℕ → Typed
+abbrev pub typing : TypedLine → ℕ → TypedLine
 typing t b =
     pick (eqb b 10) t
     (pick (eqb b 8) (record { kept = take (length (t .kept) - 1) (t .kept); spoiled = t .spoiled })
@@ -35,19 +35,19 @@ typing t b =
     (record { kept = t .kept; spoiled = true })))
 
 -- the line that the bytes before its CR make
-unfoldable pub typed : List ℕ → Typed
+unfoldable pub typed : List ℕ → TypedLine
 typed bytes = foldl typing (record { kept = []; spoiled = false }) bytes
 
 -- a piece of the stream: a line at its CR, or a field of another tag with its address
-pub data Piece : Type 0 where
-  ended : Typed → Piece
-  came : ℕ → Entry → Piece
+pub data Arrival : Type 0 where
+  ended : TypedLine → Arrival
+  came : ℕ → Entry → Arrival
 
 -- FIRST PASS: the stream is cut into lines and other fields; `bytes` have come since the last CR
-abbrev pub pieces : List ℕ → List Item → List Piece
-pieces bytes [] = []
-pieces bytes (event a e ∷ is) = came a e ∷ pieces bytes is
-pieces bytes (byte b ∷ is) = pick (eqb b 13) (ended (typed bytes) ∷ pieces [] is) (pieces (bytes ++ b ∷ []) is)
+abbrev pub arrivals : List ℕ → List Item → List Arrival
+arrivals bytes [] = []
+arrivals bytes (event a e ∷ is) = came a e ∷ arrivals bytes is
+arrivals bytes (byte b ∷ is) = pick (eqb b 13) (ended (typed bytes) ∷ arrivals [] is) (arrivals (bytes ++ b ∷ []) is)
 
 module _ (u : Setup) where
   -- who is selected after a line: ADR selects the slot that it names, nobody where that is empty; no other line selects
@@ -67,7 +67,7 @@ module _ (u : Setup) where
 
 module _ (γ : Grammar) (u : Setup) where
   -- SECOND PASS: who is selected at each CR, and to whom the line goes
-  abbrev pub routes : ℕ → List Piece → List Delivery
+  abbrev pub routes : ℕ → List Arrival → List Delivery
   routes sel [] = []
   routes sel (came a e ∷ ps) = one a e ∷ routes sel ps
   routes sel (ended t ∷ ps) =
@@ -76,7 +76,7 @@ module _ (γ : Grammar) (u : Setup) where
 
   -- what a list of calls brings to the supplies, in order; a fresh rack selects nobody
   unfoldable pub brought : List Call → List Delivery
-  brought calls = routes nobody (pieces [] (stream γ u calls))
+  brought calls = routes nobody (arrivals [] (stream γ u calls))
 
 -- what an address takes of it: its own entries, and what goes to every fitted slot
 abbrev pub forSlot : Setup → ℕ → Delivery → List Entry

@@ -1,3 +1,4 @@
+// Layer ground.
 // Words of letters of either case, held as numbers: a 1 and then a byte for each character in capitals.
 ghost use mathlib.Core.Path.{_≡_};
 ghost use Prim.Native.Nat.{_≤_};

@@ -301,19 +301,19 @@ impl Dialogue {
             let [parameter, other, _] = good(takes);
             let line = with_parameter(word, other.as_bytes());
             self.spoil(&line);
-            self.spoil(summed(&line));
+            self.spoil(checksummed(&line));
             self.say(ended(&line, format!("${:02X}", checksum(&line).wrapping_add(1))));
             let misused = format!("{word} {}", if takes == Nothing { "0" } else { "?" });
             self.say(&misused);
-            self.say(summed(misused.as_bytes()));
+            self.say(checksummed(misused.as_bytes()));
             self.say(format!("{word}  {other}"));
             self.say(format!("{word} {other} "));
             self.say(format!("{word}\t{other}"));
             self.say(query_of(word));
             self.say(word);
-            self.say(summed(word.as_bytes()));
+            self.say(checksummed(word.as_bytes()));
             self.say(format!("{word} "));
-            self.say(summed(&with_parameter(word, parameter.as_bytes())));
+            self.say(checksummed(&with_parameter(word, parameter.as_bytes())));
         }
         self.look();
     }
@@ -387,24 +387,24 @@ impl Dialogue {
             }
         }
         self.dollars();
-        self.every_reply_summed();
+        self.every_reply_checksummed();
     }
 
-    /// The sum is taken off once, and a $ elsewhere is a character like any other.
+    /// The checksum is taken off once, and a $ elsewhere is a character like any other.
     fn dollars(&mut self) {
         self.say_all(&DOLLARS);
         for line in ["$", "$$", "$24", "$00", "PV?$E5", "PV 5$1", "FENA $0", "GPV 5$00"] {
-            self.say(summed(line.as_bytes()));
+            self.say(checksummed(line.as_bytes()));
         }
-        self.say(summed(&summed(&summed(b"PV?"))));
+        self.say(checksummed(&checksummed(&checksummed(b"PV?"))));
         for near in [b'#', b'%', 0x04, 0xA4] {
             self.say([b"PV?", &[near][..], b"E5"].concat());
         }
     }
 
-    fn every_reply_summed(&mut self) {
+    fn every_reply_checksummed(&mut self) {
         self.begin(3);
-        ALL_REPLIES.iter().for_each(|line| self.say(summed(line.as_bytes())));
+        ALL_REPLIES.iter().for_each(|line| self.say(checksummed(line.as_bytes())));
     }
 
     /// All forms of a number in volts and in amperes, and some for each other word that takes one.
@@ -461,11 +461,11 @@ impl Dialogue {
         for length in [LINE_ROOM - 1, LINE_ROOM] {
             for (start, filler) in FILLED {
                 self.say(filled(start, filler, length));
-                self.say(summed(&filled(start, filler, length - 3)));
+                self.say(checksummed(&filled(start, filler, length - 3)));
             }
         }
         self.spoil(filled("PV 5", b' ', LINE_ROOM));
-        self.spoil(summed(&filled("PV?", b' ', LINE_ROOM - 3)));
+        self.spoil(checksummed(&filled("PV?", b' ', LINE_ROOM - 3)));
         self.look();
     }
 
@@ -561,7 +561,7 @@ impl Dialogue {
             garble(&mut line, draw);
         }
         match draw.below(8) {
-            0 | 1 => summed(&line),
+            0 | 1 => checksummed(&line),
             2 => ended(&line, format!("${:02x}", checksum(&line))),
             3 if draw.percent(40) => ended(&line, format!("${:02X}", draw.any() as u8)),
             _ => line,
@@ -602,7 +602,7 @@ fn reply_to(supply: &mut Supply, kept: &[u8], spoiled: bool) -> Vec<u8> {
             Vec::new()
         }
         Whom::Address | Whom::Selected => {
-            line::reply(line::obey(supply, reading.said), reading.summed)
+            line::reply(line::obey(supply, reading.said), reading.checksummed)
         }
     }
 }
@@ -640,8 +640,8 @@ fn ended(line: &[u8], end: impl AsRef<[u8]>) -> Vec<u8> {
     [line, end.as_ref()].concat()
 }
 
-/// A line with its right sum.
-fn summed(line: &[u8]) -> Vec<u8> {
+/// A line with its right checksum.
+fn checksummed(line: &[u8]) -> Vec<u8> {
     ended(line, format!("${:02X}", checksum(line)))
 }
 

@@ -8,7 +8,7 @@
 //! query: a query with CR LF in each field, and seldom an ADR;
 //! order: an order with CR LF in each field, and seldom an ADR;
 //! queries: three queries in each field, and seldom an ADR;
-//! summed: a query with its sum in each field, and seldom an ADR;
+//! checksummed: a query with its checksum in each field, and seldom an ADR;
 //! global: a line to all slots in each field.
 
 use rack_tests::generate::Draw;
@@ -37,7 +37,7 @@ const KINDS: [(&str, Kind); 8] = [
     ("query", Kind::Query),
     ("order", Kind::Order),
     ("queries", Kind::Queries),
-    ("summed", Kind::Summed),
+    ("checksummed", Kind::Summed),
     ("global", Kind::Global),
 ];
 
@@ -127,7 +127,7 @@ fn fitting_list(slots: usize) -> Vec<u8> {
     list
 }
 
-fn with_sum(text: &str) -> String {
+fn with_checksum(text: &str) -> String {
     format!("{text}${:02X}", checksum(text.as_bytes()))
 }
 
@@ -247,7 +247,7 @@ impl<W: Write> Load<W> {
             _ => self.draw.pick(&QUERIES).to_string(),
         };
         match self.draw.percent(25) {
-            true => self.say(&with_sum(&text)),
+            true => self.say(&with_checksum(&text)),
             false => self.say(&text),
         }
     }
@@ -270,7 +270,7 @@ impl<W: Write> Load<W> {
             _ if self.draw.percent(1) => format!("ADR {}", self.any_slot()),
             Kind::Order => self.order(),
             Kind::Queries => "PV?\rMV?\rMC?".to_string(),
-            Kind::Summed => with_sum(self.draw.pick(&FIGURES)),
+            Kind::Summed => with_checksum(self.draw.pick(&FIGURES)),
             _ => self.draw.pick(&FIGURES).to_string(),
         };
         match kind {

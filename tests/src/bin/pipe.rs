@@ -89,7 +89,7 @@ const ALL_TAGS: &str = r#"
     text "PV?\rFLT?\r"
     line PV? ZZZZZZZZZZZZZZZZZZZZZZZZZZZZZZZZZZZZZZZZZZZZZZZZZZZZZZZZZZZZZZZZZZZZ
     text "\r\r\r\r\r\r\r\r\r\r\r\r\r\r\r\r"
-    line ADR 0$7F            # a wrong sum: no ADR, so slot 30 answers
+    line ADR 0$7F            # a wrong checksum: no ADR, so slot 30 answers
     line ADR 0$27
     line PV?$E5
 "#;

@@ -12,7 +12,7 @@ use crate::system::{EAGAIN, EINTR, ENOSPC, LAST_ERRNO};
 const GROUPS: u64 = 15;
 const IN_A_GROUP: u64 = 10;
 const KINDS: [&str; 8] =
-    ["samples", "serial", "mixed", "query", "order", "queries", "summed", "global"];
+    ["samples", "serial", "mixed", "query", "order", "queries", "checksummed", "global"];
 
 pub fn cases() -> Vec<Case> {
     let seeds = |group| group * IN_A_GROUP..(group + 1) * IN_A_GROUP;

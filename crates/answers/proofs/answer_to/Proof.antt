@@ -2,7 +2,7 @@
 use Prim.Native.Nat.{ℕ}
 use mathlib.Core.Path.{ap}
 use Rattle.supply.specs.declared.Word.{Word}
-use Rattle.supply.specs.declared.Answer.the-variants.{Figure, Says}
+use Rattle.supply.specs.declared.QueryAnswer.the-variants.{Figure, Says}
 use Rattle.answers.specs.Answers.{answerOf}
 use borrow.Author.Needs.{needs}
 use Rattle.answers.proofs.answer_to.Statement.{statement}

@@ -8,7 +8,7 @@ use Rattle.command.proofs.read_line.Reads as reads
 use Rattle.command.proofs.read_line.Lts as lts
 use Rattle.asks.proofs.asks_of.Reads as asks-of-reads
 use Rattle.command.proofs.heard_as.Reads as heard-as-reads
-use Rattle.command.proofs.right_sum.Reads as right-sum-reads
+use Rattle.command.proofs.right_checksum.Reads as right-checksum-reads
 use Rattle.base.proofs.part_to.Reads as part-to-reads
 
 heard-as-requires : tie.Need-heard-as-requires
@@ -41,8 +41,8 @@ returns-3 : tie.Need-returns-3
 unfolding heardOf
 returns-3 c = rw (c .before .before .before .before .before .if1 .left, le-leb 3 _ (c .before .before .before .before .if2 .left), ne-eqb _ 36 (c .before .before .if3 .taken), ← c .before .asks-of2 .ensures) (c .heard-as3 .ensures)
 
-right-sum-requires : tie.Need-right-sum-requires
-right-sum-requires c κs = search needs
+right-checksum-requires : tie.Need-right-checksum-requires
+right-checksum-requires c κs = search needs
 
 part-to-requires : tie.Need-part-to-requires
 part-to-requires c κs = search needs
@@ -58,11 +58,11 @@ heard-as-requires-5 c κs = search needs
 
 returns-4 : tie.Need-returns-4
 unfolding heardOf
-returns-4 c = rw (c .before .before .before .before .before .before .before .before .if1 .left, le-leb 3 _ (c .before .before .before .before .before .before .before .if2 .left), eq-eqb _ 36 (c .before .before .before .before .before .if3 .left), ← c .before .before .before .before .right-sum .ensures, c .before .before .before .if4 .taken, ← c .before .before .part-to .ensures, ← c .before .asks-of3 .ensures) (c .heard-as4 .ensures)
+returns-4 c = rw (c .before .before .before .before .before .before .before .before .if1 .left, le-leb 3 _ (c .before .before .before .before .before .before .before .if2 .left), eq-eqb _ 36 (c .before .before .before .before .before .if3 .left), ← c .before .before .before .before .right-checksum .ensures, c .before .before .before .if4 .taken, ← c .before .before .part-to .ensures, ← c .before .asks-of3 .ensures) (c .heard-as4 .ensures)
 
 returns-5 : tie.Need-returns-5
 unfolding heardOf
-returns-5 c = rw (c .before .before .before .before .before .before .if1 .left, le-leb 3 _ (c .before .before .before .before .before .if2 .left), eq-eqb _ 36 (c .before .before .before .if3 .left), ← c .before .before .right-sum .ensures, c .before .if4 .left) (c .heard-as5 .ensures)
+returns-5 c = rw (c .before .before .before .before .before .before .if1 .left, le-leb 3 _ (c .before .before .before .before .before .if2 .left), eq-eqb _ 36 (c .before .before .before .if3 .left), ← c .before .before .right-checksum .ensures, c .before .if4 .left) (c .heard-as5 .ensures)
 
 pub read-line-spec : {M : Type 1} → statement M
 read-line-spec =
@@ -77,7 +77,7 @@ read-line-spec =
     asks-of-requires-2
     heard-as-requires-3
     returns-3
-    right-sum-requires
+    right-checksum-requires
     part-to-requires
     asks-of-requires-3
     heard-as-requires-4

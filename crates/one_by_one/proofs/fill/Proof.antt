@@ -1,4 +1,4 @@
--- `fill` meets its contract: after i turns the first i bytes are filled.
+-- `fill` meets its contract: after i cycles the first i bytes are filled.
 use native.Mathlib.Omega.{arith}
 use Prim.Native.Nat.{ℕ, _+_, _-_, _<_}
 use mathlib.Core.Path.{_≡_, refl, _∙_}

@@ -1,7 +1,7 @@
 -- `take_field` meets its contract: the answer is that of the call, and the branch that says `wrong` is never taken.
 use denote.Ref.{now}
 use mathlib.Core.Path.{_∙_}
-use Rattle.one_by_one.proofs.Turns.{called, never-wrong}
+use Rattle.one_by_one.proofs.Cycles.{called, never-wrong}
 use borrow.Author.Needs.{needs}
 use Rattle.one_by_one.proofs.take_field.Statement.{statement}
 use Rattle.one_by_one.proofs.take_field.Tie as tie

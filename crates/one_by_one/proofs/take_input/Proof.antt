@@ -1,4 +1,4 @@
--- `take_input` is safe and ends: each call continues the turns before it, has a rack and a buffer of which `take_field` speaks, and leaves
+-- `take_input` is safe and ends: each call continues the cycles before it, has a rack and a buffer of which `take_field` speaks, and leaves
 -- fewer reads to be made or fewer bytes to be worked.
 use borrow.Author.Needs.{needs}
 use mathlib.Core.Bool.{true}
@@ -6,8 +6,8 @@ use mathlib.Core.Path.{_≡_, refl, ap, _∙_}
 use lib.ListN.{length, drop}
 use Rattle.slots.specs.View.{viewOf, Able}
 use Rattle.engine.specs.Engine.{fieldsOn, fullAt}
-use Rattle.stream.proofs.Loop.{At, at-start, has-room, weight, OneTurn, a-turn}
-use Rattle.one_by_one.proofs.Turns.{one-turn}
+use Rattle.stream.proofs.Loop.{At, at-start, has-room, weight, OneCycle, a-cycle}
+use Rattle.one_by_one.proofs.Cycles.{one-cycle}
 use Rattle.one_by_one.proofs.take_input.Statement.{statement}
 use Rattle.one_by_one.proofs.take_input.Tie as tie
 use Rattle.one_by_one.proofs.take_input.Reads as reads
@@ -62,16 +62,16 @@ write-out-requires c κs = search needs
 turned :
     (m : lts.After-struct-known2 (no-block-reads.Asked, no-block-reads.Learnt, refill-reads.Asked, refill-reads.Learnt, part-to-reads.Asked, part-to-reads.Learnt, part-from-reads.Asked, part-from-reads.Learnt, take-field-reads.Asked, take-field-reads.Learnt, write-out-reads.Asked, write-out-reads.Learnt, waits-reads.Asked, waits-reads.Learnt, goes-on-reads.Asked, goes-on-reads.Learnt, told-at-end-reads.Asked, told-at-end-reads.Learnt) reads.Pre reads.Post Inv-loop μ-loop)
     → Able (m .before .before .before .before .before .before .before .before .take-field .result .rack)
-    × OneTurn (viewOf (m .before .before .before .before .before .before .before .before .before .before .before .before .before .before .before .before .before .before .before .before .before .before .args .r)) (viewOf (m .before .before .before .before .before .before .before .before .take-field .result .rack)) (m .before .before .before .before .before .before .before .before .before .before .before .before .before .before .before .refill .last .0) (m .before .before .before .before .before .before .before .before .before .before .before .before .before .before .before .before .before .before .loop .block) (m .before .before .before .before .before .before .before .before .before .before .before .before .before .before .before .refill .result) (m .before .before .before .before .before .before .before .before .before .before .before .before .before .before .before .before .before .before .loop .code) (m .before .before .before .before .before .before .before .before .take-field .result .used) (m .before .before .before .before .before .before .before .before .take-field .result .code) (m .before .before .write-out .result)
+    × OneCycle (viewOf (m .before .before .before .before .before .before .before .before .before .before .before .before .before .before .before .before .before .before .before .before .before .before .args .r)) (viewOf (m .before .before .before .before .before .before .before .before .take-field .result .rack)) (m .before .before .before .before .before .before .before .before .before .before .before .before .before .before .before .refill .last .0) (m .before .before .before .before .before .before .before .before .before .before .before .before .before .before .before .before .before .before .loop .block) (m .before .before .before .before .before .before .before .before .before .before .before .before .before .before .before .refill .result) (m .before .before .before .before .before .before .before .before .before .before .before .before .before .before .before .before .before .before .loop .code) (m .before .before .before .before .before .before .before .before .take-field .result .used) (m .before .before .before .before .before .before .before .before .take-field .result .code) (m .before .before .write-out .result)
     × (length (m .before .before .before .before .before .before .before .before .before .before .before .before .before .before .before .refill .last .0) ≡ length (m .before .before .before .before .before .before .before .before .before .before .before .before .before .before .before .before .before .before .loop .room))
 turned m =
     let l = m .before .before .before .before .before .before .before .before .before .before .before .before .before .before .before .before .before .before .loop in
     let f = m .before .before .before .before .before .before .before .before .before .before .before .before .before .before .before .refill in
     let t = m .before .before .before .before .before .before .before .before .take-field in
-    let d = one-turn (l .rack) _ (t .result) _ (l .inv .2) (t .ensures) in
+    let d = one-cycle (l .rack) _ (t .result) _ (l .inv .2) (t .ensures) in
     let bytes = m .before .before .before .before .before .before .before .before .before .before .part-from .ensures ∙ ap (drop (f .result .from)) (m .before .before .before .before .before .before .before .before .before .before .before .part-to .ensures) in
     let long : length (f .last .0) ≡ length (l .room) = search needs in
-    (d .small, a-turn (rw (m .before .before .before .before .before .before .before .before .before .before .before .before .before .before .before .before .before .loop-test .taken) at (l .inv .3)) (f .ensures) (long ∙ l .inv .0 ∙ m .before .before .before .before .before .before .before .before .before .before .before .before .before .before .before .before .before .before .before .before .before .before .pre .2) (viewOf (t .result .rack)) (t .result .used) (d .said) (t .result .code) (fullAt 0) (d .is ∙ ap (fieldsOn (fullAt 0) (viewOf (l .rack))) bytes) (m .before .before .write-out .result), long)
+    (d .small, a-cycle (rw (m .before .before .before .before .before .before .before .before .before .before .before .before .before .before .before .before .before .loop-test .taken) at (l .inv .3)) (f .ensures) (long ∙ l .inv .0 ∙ m .before .before .before .before .before .before .before .before .before .before .before .before .before .before .before .before .before .before .before .before .before .before .pre .2) (viewOf (t .result .rack)) (t .result .used) (d .said) (t .result .code) (fullAt 0) (d .is ∙ ap (fieldsOn (fullAt 0) (viewOf (l .rack))) bytes) (m .before .before .write-out .result), long)
 
 add-block : tie.Need-add-block Inv-loop μ-loop
 add-block c = search (needs, turned c .1 .within)

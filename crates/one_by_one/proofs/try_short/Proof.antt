@@ -1,6 +1,6 @@
 -- `try_short` meets its contract: a call on a short buffer is refused with 1 and changes nothing.
 use denote.Ref.{now}
-use Rattle.one_by_one.proofs.Turns.{tried-right}
+use Rattle.one_by_one.proofs.Cycles.{tried-right}
 use borrow.Author.Needs.{needs}
 use Rattle.one_by_one.proofs.try_short.Statement.{statement}
 use Rattle.one_by_one.proofs.try_short.Tie as tie

@@ -14,8 +14,8 @@ most-of-requires c κs = search needs
 setting-requires : tie.Need-setting-requires
 setting-requires c κs = search needs
 
-summed-requires : tie.Need-summed-requires
-summed-requires c κs = search needs
+with-step-requires : tie.Need-with-step-requires
+with-step-requires c κs = search needs
 
 larger-requires : tie.Need-larger-requires
 larger-requires c κs = search needs
@@ -29,7 +29,7 @@ cast-result c = omega (arith, c .smaller .ensures, c .before .before .before .be
 returns : tie.Need-returns
 returns c =
     let ends = c .before .before .before .before in
-    step-is _ _ _ _ (ends .before .least-of .ensures) (ends .most-of .ensures) (c .before .before .before .setting .ensures) (c .before .before .summed .ensures) (c .before .larger .ensures) (c .smaller .ensures)
+    step-is _ _ _ _ (ends .before .least-of .ensures) (ends .most-of .ensures) (c .before .before .before .setting .ensures) (c .before .before .with-step .ensures) (c .before .larger .ensures) (c .smaller .ensures)
 
 pub stepped-setting-spec : {M : Type 1} → statement M
 stepped-setting-spec =
@@ -38,7 +38,7 @@ stepped-setting-spec =
     least-of-requires
     most-of-requires
     setting-requires
-    summed-requires
+    with-step-requires
     larger-requires
     smaller-requires
     cast-result

@@ -24,7 +24,7 @@ returns : tie.Need-returns
 returns c =
     let z = c .before .before .before .before .args in
     let empty : fitted (z .u) (z .selected) ≡ false = rw (← c .before .before .model-at .ensures, eq-eqb _ 255 (c .before .if1 .taken)) refl in
-    rw (c .one-ended .ensures) (refl, λ l e. ends-nobody (z .u) l (z .s) (now (z .buf)) (z .at) (z .selected) e (z .a) (z .summed) empty)
+    rw (c .one-ended .ensures) (refl, λ l e. ends-nobody (z .u) l (z .s) (now (z .buf)) (z .at) (z .selected) e (z .a) (z .checksummed) empty)
 
 obey-requires : tie.Need-obey-requires
 obey-requires c κs = search needs
@@ -39,7 +39,7 @@ returns-2 : tie.Need-returns-2
 returns-2 c =
     let z = c .before .before .before .before .before .before .before .before .before .args in
     let there : fitted (z .u) (z .selected) ≡ true = rw (← c .before .before .before .before .before .before .before .model-at .ensures, ne-eqb _ 255 (c .before .before .before .before .before .before .if1 .left)) refl in
-    rw (c .one-ended2 .ensures) (refl, λ l e. ends-asked (z .u) l (z .s) (now (z .buf)) (z .at) (z .selected) e (z .a) (z .summed) (c .before .before .before .before .before .before .before .model-at .result) _ _ _ there (c .before .before .before .before .before .before .before .model-at .ensures) (c .before .before .before .before .obey .ensures .0) (c .before .before .before .before .obey .ensures .1))
+    rw (c .one-ended2 .ensures) (refl, λ l e. ends-asked (z .u) l (z .s) (now (z .buf)) (z .at) (z .selected) e (z .a) (z .checksummed) (c .before .before .before .before .before .before .before .model-at .result) _ _ _ there (c .before .before .before .before .before .before .before .model-at .ensures) (c .before .before .before .before .obey .ensures .0) (c .before .before .before .before .obey .ensures .1))
 
 pub tell-one-spec : {M : Type 1} → statement M
 tell-one-spec =

@@ -1,6 +1,6 @@
 -- `put_end` meets its contract.
 use Rattle.base.proofs.Put.{put-full}
-use Rattle.texts.proofs.Writing.{put-bare-end, put-summed-end}
+use Rattle.texts.proofs.Writing.{put-bare-end, put-checksummed-end}
 use borrow.Author.Needs.{needs}
 use Rattle.texts.proofs.put_end.Statement.{statement}
 use Rattle.texts.proofs.put_end.Tie as tie
@@ -8,22 +8,22 @@ use Rattle.texts.proofs.put_end.Reads as reads
 use Rattle.texts.proofs.put_end.Lts as lts
 use Rattle.base.proofs.put_byte.Reads as put-byte-reads
 use Rattle.hex.proofs.put_hex.Reads as put-hex-reads
-use Rattle.hex.proofs.sum.Reads as sum-reads
+use Rattle.hex.proofs.checksum.Reads as checksum-reads
 
 returns : tie.Need-returns
 returns c = put-full _ _ _ (c .if1 .taken)
 
-sub-sum : tie.Need-sub-sum
-sub-sum c = search needs
+sub-checksum : tie.Need-sub-checksum
+sub-checksum c = search needs
 
-part-sum-start : tie.Need-part-sum-start
-part-sum-start c = search needs
+part-checksum-start : tie.Need-part-checksum-start
+part-checksum-start c = search needs
 
-part-sum-end : tie.Need-part-sum-end
-part-sum-end c = search needs
+part-checksum-end : tie.Need-part-checksum-end
+part-checksum-end c = search needs
 
-sum-requires : tie.Need-sum-requires
-sum-requires c κs = search needs
+checksum-requires : tie.Need-checksum-requires
+checksum-requires c κs = search needs
 
 put-byte-requires : tie.Need-put-byte-requires
 put-byte-requires c κs = search needs
@@ -41,7 +41,7 @@ same-length : tie.Need-same-length
 same-length c = search needs
 
 returns-2 : tie.Need-returns-2
-returns-2 c = put-summed-end _ _ (c .before .before .before .before .before .before .before .before .before .before .before .before .before .before .before .if2 .taken) _ (c .before .before .before .before .before .before .before .before .before .before .before .before .sum .ensures) (c .before .before .before .before .before .before .before .before .before .before .put-byte .ensures) (c .before .before .before .before .before .before .put-hex .ensures) (c .before .before .put-byte2 .ensures)
+returns-2 c = put-checksummed-end _ _ (c .before .before .before .before .before .before .before .before .before .before .before .before .before .before .before .if2 .taken) _ (c .before .before .before .before .before .before .before .before .before .before .before .before .checksum .ensures) (c .before .before .before .before .before .before .before .before .before .before .put-byte .ensures) (c .before .before .before .before .before .before .put-hex .ensures) (c .before .before .put-byte2 .ensures)
 
 same-length-2 : tie.Need-same-length-2
 same-length-2 c = search needs
@@ -54,10 +54,10 @@ put-end-spec =
     tie.close
     (tie.spec
     returns
-    sub-sum
-    part-sum-start
-    part-sum-end
-    sum-requires
+    sub-checksum
+    part-checksum-start
+    part-checksum-end
+    checksum-requires
     put-byte-requires
     put-hex-requires
     put-byte-requires-2
