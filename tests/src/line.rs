@@ -51,7 +51,9 @@ pub fn read(kept: &[u8], spoiled: bool) -> Reading {
     let (text, checksummed) = match cut_checksum(kept) {
         Sum::Absent => (kept, false),
         Sum::Right(text) => (text, true),
-        Sum::Wrong => return Reading { whom: Whom::Selected, checksummed: false, said: Err(Code::C04) },
+        Sum::Wrong => {
+            return Reading { whom: Whom::Selected, checksummed: false, said: Err(Code::C04) }
+        }
     };
     let (whom, said) = understand(text);
     Reading { whom, checksummed, said }

@@ -185,5 +185,8 @@ fn every_reply_comes_with_a_sum_and_without() {
         let bare = reply.split('$').next().unwrap_or_default();
         assert!(replies.contains(reply) && replies.contains(bare), "{reply}");
     }
-    assert!(!all.iter().any(|one| one.reply.starts_with("C04$")), "a wrong checksum draws no checksum");
+    assert!(
+        !all.iter().any(|one| one.reply.starts_with("C04$")),
+        "a wrong checksum draws no checksum"
+    );
 }

@@ -19,7 +19,7 @@ use Rattle.supply.specs.declared.Order.{Order}
 use Rattle.supply.specs.declared.Order.the-variants.{Set, Ovm, Out, Fld, Ast, Rmt, Fena, Cls, Rst}
 use Rattle.supply.specs.declared.Act.{Act}
 use Rattle.supply.specs.declared.Act.the-variants.{Lines, Sample, Press, Turn, Obey, Ask, Nothing}
-use Rattle.supply.specs.With.{withFeve, withWant, withArmed, withMode, withFoldTrip, withOvpTrip}
+use Rattle.supply.specs.With.{withFeve, withWant, withArmed, withMode, withOvpTrip}
 use Rattle.supply.specs.State.{fresh}
 use Rattle.supply.specs.Flt.{onOf, linesClear, settled}
 use Rattle.settings.specs.Settings.{withSetting, stepped}
@@ -30,6 +30,7 @@ use Rattle.orders.specs.Orders.{remote, remoteBy, outDone, fldDone, reset, orde
 use Rattle.acts.specs.Acts.{codeOf, clearingQuery, clearingAct, cleared, acted, closed, performed}
 use Rattle.settings.specs.Lawful.{Bounded, Lawful, Admissible}
 use Rattle.settings.proofs.Knob.{within, from-range, stepped-nearest}
+use Rattle.events.proofs.Cases.{disarm-law}
 use Rattle.codes.proofs.Accepted.{accepted-range}
 
 pub fresh-lawful : (m : ℕ) → Lawful m (fresh m)
@@ -68,8 +69,7 @@ module _ (m : ℕ) where
   sample-keeps s v a h = h
 
   disarm-keeps : (s : Supply) → Lawful m s → Lawful m (disarmed s)
-  unfolding disarmed
-  disarm-keeps s h = K (s .«fold_trip») (withFoldTrip false (withWant false s)) s h h
+  disarm-keeps s h = rw (← disarm-law s) h
 
   turn-on-keeps : (s : Supply) → Lawful m s → Lawful m (turnedOn s)
   unfolding turnedOn

@@ -251,7 +251,9 @@ unfolding performed codeOf orderCode clearingAct clearingOrder settled acted ord
 reset-off m s = want-off-shut (performed m s (Obey Rst)) refl
 
 disarmed-off : (s : Supply) → s .«fold_trip» ≡ true → disarmed s .want ≡ false
-disarmed-off s e = rw (← disarm-law s, e) refl
+disarmed-off s e =
+    let off : (not (s .«fold_trip») && s .want) ≡ false = rw e refl in
+    ap (λ (x : Supply). x .want) (sym (disarm-law s)) ∙ off
 
 pub fld-off : (m : ℕ) (s : Supply) → s .armed ≡ true → s .«fold_trip» ≡ true → onOf (performed m s (Obey (Fld false))) ≡ false
 unfolding performed codeOf orderCode clearingAct clearingOrder settled acted ordered fldDone
