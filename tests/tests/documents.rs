@@ -390,3 +390,20 @@ fn every_crate_has_a_line_and_a_folder() {
         folders.map(|entry| entry.file_name().to_string_lossy().into_owned()).collect();
     assert_eq!(listed, there);
 }
+
+/// Whoever opens a crate reads its layer first.
+#[test]
+fn every_crate_names_its_layer_first() {
+    let mut wrong = Vec::new();
+    for (layer, crates) in layers() {
+        for name in crates {
+            let source = format!("crates/{name}/src");
+            let file = ["lib.rt", "main.rt"].map(|file| format!("{source}/{file}"));
+            let file = file.iter().find(|file| top().join(file).exists()).expect("a source");
+            if read(file).lines().next() != Some(&format!("// Layer {layer}.")) {
+                wrong.push(format!("{file}: its first line is not '// Layer {layer}.'"));
+            }
+        }
+    }
+    assert_none(wrong);
+}
