@@ -1,7 +1,8 @@
 -- What clears FEVE, and that nothing else does.
-use mathlib.Core.Path.{_≡_, refl, ap}
+use mathlib.Core.Path.{_≡_, refl, sym, ap}
 use mathlib.Core.Logic.{_⊎_, inl, inr, ⊎-elim}
-use mathlib.Core.Bool.{true, false≢true}
+use mathlib.Core.Bool.{true, false, false≢true}
+use mathlib.Mathlib.Data.Bool.Basic.{eq-false-of-not-eq-true}
 use Rattle.supply.specs.declared.Order.{Order}
 use Rattle.supply.specs.declared.Order.the-variants.{Set, Ovm, Out, Fld, Ast, Rmt, Fena, Cls, Rst}
 use Rattle.supply.specs.declared.Query.{Query}
@@ -38,6 +39,13 @@ order-is (Fld b) e = absurd (false≢true e)
 order-is (Ast b) e = absurd (false≢true e)
 order-is (Rmt k) e = absurd (false≢true e)
 order-is (Fena b) e = absurd (false≢true e)
+
+-- so no other query or order clears it
+pub query-keeps : (q : Query) → (q ≡ query.Feve → ⊥) → false ≡ clearingQuery q
+query-keeps q n = sym (eq-false-of-not-eq-true (λ e. n (query-is q e)))
+
+pub order-keeps : (o : Order) → (o ≡ Cls → ⊥) → (o ≡ Rst → ⊥) → false ≡ clearingOrder o
+order-keeps o n k = sym (eq-false-of-not-eq-true (λ e. ⊎-elim n k (order-is o e)))
 
 -- WHAT CLEARS FEVE
 pub clearing-acts : ClearingActs

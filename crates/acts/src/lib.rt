@@ -27,22 +27,7 @@ fn clear_feve(s: Supply, test: bool) -> Supply
 fn query_clears(q: Query) -> bool
     ensures { λ r. ⌜ r ≡ clearingQuery q ⌝ }
 {
-    match q {
-        Query::Feve => true,
-        Query::Pv => false,
-        Query::Pc => false,
-        Query::Ovp => false,
-        Query::Uvl => false,
-        Query::Mv => false,
-        Query::Mc => false,
-        Query::Out => false,
-        Query::Fld => false,
-        Query::Ast => false,
-        Query::Rmt => false,
-        Query::Mode => false,
-        Query::Flt => false,
-        Query::Fena => false,
-    }
+    if let Query::Feve = q { true } else { false }
 }
 
 fn order_clears(o: Order) -> bool
@@ -51,13 +36,7 @@ fn order_clears(o: Order) -> bool
     match o {
         Order::Cls => true,
         Order::Rst => true,
-        Order::Set(_, _) => false,
-        Order::Ovm => false,
-        Order::Out(_) => false,
-        Order::Fld(_) => false,
-        Order::Ast(_) => false,
-        Order::Rmt(_) => false,
-        Order::Fena(_) => false,
+        _ => false,
     }
 }
 
