@@ -27,11 +27,11 @@ use Rattle.orders.specs.Orders.{remote, remoteBy, outDone, fldDone, reset, orde
 use Rattle.acts.specs.Acts.{codeOf, clearingQuery, clearingAct, cleared, acted, closed, performed}
 use Rattle.acts.specs.Coherent.{Listed, Agreeing, Coherent, CheckedOrder, Checked}
 
--- with no FOLD trip nothing is asked of ARMED
+-- without a FOLD trip, ARMED has no condition to meet
 untripped : {mode lines : ℕ} {armed : Bool} → mode ≤ 2 → Listed lines → Agreeing mode lines false armed
 untripped m l = record { mode-known = m; lines-listed = l; fold-armed = λ e. absurd (false≢true e) }
 
--- another mode, known too
+-- another mode, which is known too
 moded : {mode lines : ℕ} {fold armed : Bool} (k : ℕ) → k ≤ 2
     → Agreeing mode lines fold armed → Agreeing k lines fold armed
 moded k m h = record { mode-known = m; lines-listed = h .lines-listed; fold-armed = h .fold-armed }
@@ -39,7 +39,7 @@ moded k m h = record { mode-known = m; lines-listed = h .lines-listed; fold-arme
 mode-picked : (t : Bool) (j k : ℕ) → j ≤ 2 → k ≤ 2 → pick t j k ≤ 2
 mode-picked = pick-keeps (λ (n : ℕ). n ≤ 2)
 
--- where either of two tests means ARMED
+-- if either of two tests implies ARMED
 either : (x y armed : Bool) → (x ≡ true → armed ≡ true) → (y ≡ true → armed ≡ true) → (x || y) ≡ true → armed ≡ true
 either true y armed f g e = f refl
 either false y armed f g e = g e

@@ -1,4 +1,4 @@
--- FEVE after an act, bit by bit: the first stage moves it only to clear it, and what comes after that leaves FLT alone.
+-- FEVE after an act, bit by bit: the first stage changes it only to clear it, and the later stages leave FLT alone.
 use Prim.Native.Nat.{ℕ, _<_}
 use mathlib.Core.Path.{_≡_, refl, sym, ap, _∙_}
 use mathlib.Core.Bool.{Bool, true, false, not, _&&_, _||_, true≢false}
@@ -47,7 +47,7 @@ module _ (m : ℕ) (s : Supply) where
   clears a e =
       ⊎-elim (λ p. rw p asked-clear) (λ q. ⊎-elim (λ p. rw p (closed-clear .0)) (λ p. rw p (closed-clear .1)) q) (clearing-acts a e)
 
--- FEVE as the supply s has it
+-- FEVE as supply s has it
 module _ (s : Supply) where
   abbrev Same : Supply → Type 0
   Same t = t .feve ≡ s .feve
@@ -116,12 +116,12 @@ module _ (s : Supply) where
   acted-same m (Ask q) e = rw e refl
   acted-same m Nothing e = refl
 
--- what comes behind the first stage moves no bit of FLT
+-- the stages after the first change no bit of FLT
 settled-flt : (s t : Supply) → fltOf (settled s t) ≡ fltOf t
 unfolding fltOf settled
 settled-flt s t = refl
 
--- the third stage clears only in acts that clear
+-- the third stage clears FEVE only in acts that clear it
 closing : (a : Act) → clearsFeve a ≡ false → clearingAct a ≡ false
 unfolding clearingAct
 closing (Obey o) e = e
@@ -137,7 +137,7 @@ module _ (m : ℕ) (s : Supply) where
   unfolding performed
   accepted a e = pick-true _ _ _ (eq-eqb (codeOf m s a) 0 e)
 
-  -- an accepted act that does not clear is what it does, settled
+  -- an accepted act that does not clear FEVE is its first stage, settled
   unclosed : (a : Act) → codeOf m s a ≡ 0 → clearsFeve a ≡ false → performed m s a ≡ settled s (acted m s a)
   unclosed a e c = accepted a e ∙ pick-false _ _ _ (closing a c)
 
@@ -145,7 +145,7 @@ module _ (m : ℕ) (s : Supply) where
   flt-after a e =
       ap fltOf (accepted a e) ∙ cleared-flt (clearingAct a) (settled s (acted m s a)) ∙ settled-flt s (acted m s a)
 
-  -- what FEVE gains, FLT being taken where the act has done what it does
+  -- what FEVE gains, with FLT taken after the first stage
   abbrev risen : Act → ℕ → Bool
   risen a k = (bitAt k (fltOf (acted m s a)) && not (bitAt k (fltOf s))) && bitAt k (s .fena)
 

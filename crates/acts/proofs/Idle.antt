@@ -1,5 +1,5 @@
--- Acts that need not go through all three stages: a refused order changes nothing, and by a figure for a setting or a query FEVE
--- gains nothing.
+-- Acts that need not go through all three stages: a refused order changes nothing, and FEVE gains nothing from a figure
+-- for a setting or from a query.
 use mathlib.Core.Path.{_≡_, refl, sym, _∙_}
 use mathlib.Core.Bool.{Bool, true, false, true≢false}
 use Prim.Native.Nat.{ℕ, _%_}
@@ -23,7 +23,7 @@ use Rattle.codes.proofs.Accepted.{set-low}
 use Rattle.orders.specs.Orders.{remote, remoteBy, ordered, afterOrder}
 use Rattle.acts.specs.Acts.{codeOf, clearingQuery, clearingOrder, clearingAct, cleared, acted, performed}
 
--- a setting, and MODE beside it, show in no bit of FLT
+-- no bit of FLT depends on a setting, or on MODE with it
 set-flt : (t : Target) (x : ℕ) (s : Supply) → fltOf (remoteBy t (withSetting t x s)) ≡ fltOf s
 unfolding fltOf remoteBy remote withSetting
 set-flt Pv x s = refl
@@ -31,7 +31,7 @@ set-flt Pc x s = refl
 set-flt Ovp x s = refl
 set-flt Uvl x s = refl
 
--- nor does FEVE
+-- nor on FEVE
 pub cleared-flt : (t : Bool) (s : Supply) → fltOf (cleared t s) ≡ fltOf s
 unfolding fltOf
 cleared-flt true s = refl
@@ -51,7 +51,7 @@ module _ (m : ℕ) (s : Supply) where
   refused-keeps (Rmt k) e = refl
   refused-keeps (Fena b) e = refl
 
-  -- an order judged and carried out goes through the later stages, refused or not: a refused one gains and clears nothing
+  -- every order goes through the later stages, refused or not: a refused one gains and clears nothing
   pub order-closed : (o : Order) → cleared (clearingOrder o) (settled s (afterOrder m s o)) ≡ performed m s (Obey o)
   unfolding performed codeOf acted clearingAct afterOrder
   order-closed o = byCode (eqb (orderCode m s o) 0) refl
@@ -61,7 +61,7 @@ module _ (m : ℕ) (s : Supply) where
       byCode true e = refl
       byCode false e = rw (refused-keeps o e) (settled-idle s s refl)
 
-  -- what is refused changes nothing
+  -- a refused act changes nothing
   pub unmoved : (a : Act) → (codeOf m s a ≡ 0 → ⊥) → performed m s a ≡ s
   unfolding performed
   unmoved a n = pick-false _ _ _ (ne-eqb (codeOf m s a) 0 n)
@@ -70,12 +70,12 @@ module _ (m : ℕ) (s : Supply) where
   unfolding codeOf
   refused o e ne = sym (unmoved (Obey o) (λ z. ne (e ∙ z)))
 
-  -- an accepted figure is stored, and that is all; its low 32 bits are all of it
+  -- an accepted figure is stored and nothing else happens; its low 32 bits are all of it
   pub set-done : (t : Target) (n : ℕ) → orderCode m s (Set t n) ≡ 0 → remoteBy t (withSetting t (n % 0x100000000) s) ≡ performed m s (Obey (Set t n))
   unfolding performed codeOf acted clearingAct clearingOrder ordered
   set-done t n e = rw (set-low m s t n e) (sym (pick-true _ _ _ (eq-eqb (orderCode m s (Set t n)) 0 e) ∙ settled-idle s _ (set-flt t n s)))
 
-  -- a query does no more than clear FEVE, where it is FEVE?
+  -- a query does no more than clear FEVE, and only FEVE? does that
   pub query-done : (q : Query) → cleared (clearingQuery q) s ≡ performed m s (Ask q)
   unfolding performed codeOf acted clearingAct
   query-done q = sym (settled-idle s _ (cleared-flt (clearingQuery q) s))

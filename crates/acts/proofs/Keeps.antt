@@ -1,4 +1,5 @@
--- Margins and limits hold of the fresh supply and are kept by whatever a supply is asked; accepted settings are the admissible ones.
+-- The fresh supply keeps margins and limits, and so does every supply after an act; the accepted settings are exactly
+-- the admissible ones.
 use mathlib.Core.Path.{_≡_, refl}
 use mathlib.Core.Bool.{Bool, true, false, not, _&&_}
 use Prim.Native.Nat.{ℕ}
@@ -39,11 +40,11 @@ fresh-lawful m =
     within (limitsOf m) 0 0 (limitsOf m .«ovp_most») 0 (omega arith) (omega arith) (omega arith) (omega arith) (ovp-room m) (omega arith) (omega arith)
 
 module _ (l : Limits) (s : Supply) where
-  -- an accepted figure is admissible, where the supply keeps margins and limits
+  -- an accepted figure is admissible if the supply keeps margins and limits
   pub accepted-admissible : Bounded l s → (t : Target) (n : ℕ) → setCode l s t n ≡ 0 → Admissible l s t n
   accepted-admissible h t n e = let r = accepted-range l s t n e in from-range l s t n h (r .0) (r .1)
 
-  -- and an admissible one is accepted
+  -- and an admissible figure is accepted
   pub admissible-accepted : (t : Target) (n : ℕ) → Admissible l s t n → setCode l s t n ≡ 0
   unfolding setCode withSetting
   admissible-accepted Pv n a = rw (le-ltb _ _ (a .pv-limit), le-ltb _ _ (a .ovp-margin), le-ltb _ _ (a .uvl-margin)) refl
@@ -100,7 +101,7 @@ module _ (m : ℕ) where
   remote-by-keeps Ovp s h = h
   remote-by-keeps Uvl s h = h
 
-  -- ONE LAW FOR ALL ORDERS, each accepted
+  -- ONE LAW FOR ALL ORDERS, if accepted
   pub order-keeps : (s : Supply) (o : Order) → orderCode m s o ≡ 0 → Lawful m s → Lawful m (ordered m s o)
   unfolding ordered orderCode outDone fldDone reset
   order-keeps s (Set t n) e h = remote-by-keeps t (withSetting t n s) (accepted-admissible (limitsOf m) s h t n e)
@@ -141,7 +142,7 @@ module _ (m : ℕ) where
   unfolding settled
   settled-keeps s t h = h
 
-  -- WHATEVER A SUPPLY IS ASKED keeps margins and limits
+  -- EVERY ACT keeps margins and limits
   pub performed-lawful : (s : Supply) (a : Act) → Lawful m s → Lawful m (performed m s a)
   unfolding performed
   performed-lawful s a h = byCode (eqb (codeOf m s a) 0) refl

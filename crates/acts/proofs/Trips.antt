@@ -1,4 +1,4 @@
--- Only a named release takes a trip away, each named release does, and a sample alone sets one.
+-- Only a named release takes a trip away, every named release does, and only a sample sets one.
 use mathlib.Core.Path.{_≡_, refl, sym, ap, _∙_}
 use mathlib.Core.Bool.{Bool, true, false, not, _&&_, _||_, false≢true, true≢false, or-false, or-comm}
 use Prim.Native.Nat.{ℕ}
@@ -29,12 +29,12 @@ use Rattle.acts.specs.Releases.{Trip, fold, ovp, isSet, isOvp, orderRele
 use Rattle.events.proofs.Cases.{lines-law, disarm-law}
 use Rattle.supply.proofs.FltBits.{want-off-shut, fold-shut, ovp-shut}
 
--- a trip that is set means that the output is off
+-- if a trip is set, the output is off
 pub shut : (k : Trip) (s : Supply) → isSet k s ≡ true → onOf s ≡ false
 shut fold s e = fold-shut s e
 shut ovp s e = ovp-shut s e
 
--- the acts that set a trip: a sample, judged on the supply before it
+-- the acts that set a trip: a sample, tested on the supply before it
 abbrev pub sets : ℕ → Trip → Supply → Act → Bool
 sets m ovp s (Sample v a) = tripsOvp m s v
 sets m fold s (Sample v a) = tripsFold m s v a
@@ -45,7 +45,7 @@ sets m k s (Obey o) = false
 sets m k s (Ask q) = false
 sets m k s Nothing = false
 
--- what is left of a trip x after an act that releases it or not
+-- what is left of a trip x after an act that may release it
 abbrev left : Bool → Bool → Bool
 left release x = not release && x
 
@@ -53,7 +53,7 @@ pick-trip : (k : Trip) (t : Bool) (a b : Supply) → isSet k (pick t a b) ≡ pi
 pick-trip k true a b = refl
 pick-trip k false a b = refl
 
--- what leaves both trips alone
+-- changes that leave both trips alone
 module _ (k : Trip) where
   abbrev Same : Supply → Supply → Type 0
   Same t s = isSet k t ≡ isSet k s
@@ -97,7 +97,7 @@ cleared-same : (k : Trip) (t : Bool) (s : Supply) → Same k (cleared t s) s
 cleared-same k true s = by-trip (λ j. Same j (cleared true s) s) refl refl k
 cleared-same k false s = refl
 
--- turning on clears both; ARMED going off clears FOLD and leaves OVP
+-- turning on releases both trips; turning ARMED off releases FOLD and leaves OVP
 turned-on-clear : (k : Trip) (s : Supply) → isSet k (turnedOn s) ≡ false
 unfolding turnedOn
 turned-on-clear fold s = refl
@@ -112,7 +112,7 @@ disarmed-trip : (k : Trip) (s : Supply) → isSet k (disarmed s) ≡ (isOvp k &&
 disarmed-trip fold s = rw (← disarm-law s) refl
 disarmed-trip ovp s = rw (← disarm-law s) refl
 
--- the choices of an event, a key or an order, as what they leave of a trip
+-- what LINES, a key or an order leaves of a trip, case by case
 abbrev linesLeave : Trip → Bool → Bool → Bool → Bool
 linesLeave fold ac so x = not ac && x
 linesLeave ovp ac so x = not so && (not ac && x)
@@ -186,7 +186,7 @@ module _ (m : ℕ) (k : Trip) (s : Supply) where
   order-trip Cls e = refl
   order-trip Rst e = reset-clear m k s
 
-  -- an accepted act leaves of a trip what it does not release, and a sample may set it
+  -- an accepted act leaves a trip unless it releases it, and a sample may set one
   acted-trip : (a : Act) → codeOf m s a ≡ 0 → isSet k (acted m s a) ≡ (left (releases m k s a) (isSet k s) || sets m k s a)
   unfolding acted releases codeOf
   acted-trip (Lines b) e = lines-trip b ∙ sym (or-false _)
@@ -217,7 +217,7 @@ module _ (m : ℕ) (k : Trip) (s : Supply) where
   refused-idle (Ask q) e = absurd (true≢false e)
   refused-idle Nothing e = absurd (true≢false e)
 
-  -- THE TRIP AFTER AN ACT: what was set and is not released, or what a sample sets
+  -- THE TRIP AFTER AN ACT: it is set if it was and is not released, or if a sample sets it
   pub trip-law : (a : Act) → isSet k (performed m s a) ≡ (left (releases m k s a) (isSet k s) || sets m k s a)
   unfolding performed
   trip-law a = byCode (eqb (codeOf m s a) 0) refl
@@ -241,11 +241,11 @@ module _ (m : ℕ) (k : Trip) (s : Supply) where
   release-idle (Ask q) r = refl
   release-idle Nothing r = refl
 
-  -- each named release clears the trip
+  -- every named release takes the trip away
   pub frees : (a : Act) → releases m k s a ≡ true → isSet k (performed m s a) ≡ false
   frees a r = trip-law a ∙ rw (r, release-idle a r) refl
 
--- RST, and ARMED going off on a FOLD trip, leave the output off
+-- RST, and turning ARMED off on a FOLD trip, leave the output off
 pub reset-off : (m : ℕ) (s : Supply) → onOf (performed m s (Obey Rst)) ≡ false
 unfolding performed codeOf orderCode clearingAct clearingOrder settled acted ordered reset fresh
 reset-off m s = want-off-shut (performed m s (Obey Rst)) refl

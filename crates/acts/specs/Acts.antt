@@ -1,4 +1,4 @@
--- Whatever a supply can be asked: whether it is refused, and what it leaves, in three stages.
+-- The acts: whether a supply refuses one, and the supply that an act leaves, in three stages.
 use Prim.Native.Nat.{ℕ}
 use mathlib.Core.Bool.{Bool, true, false}
 use lib.Dec.{eqb}
@@ -17,7 +17,7 @@ use Rattle.events.specs.Events.{linesChanged, pressed, turned}
 use Rattle.codes.specs.Codes.{orderCode}
 use Rattle.orders.specs.Orders.{ordered}
 
--- 0, or the code of the refusal; only an order can be refused
+-- 0, or the error code of the refusal; only an order can be refused
 unfoldable pub codeOf : ℕ → Supply → Act → ℕ
 codeOf m s (Lines b) = 0
 codeOf m s (Sample v a) = 0
@@ -56,11 +56,11 @@ clearingOrder (Ast b) = false
 clearingOrder (Rmt k) = false
 clearingOrder (Fena b) = false
 
--- FEVE goes to 0 where the test says so
+-- FEVE is set to 0 if the test is true
 abbrev pub cleared : Bool → Supply → Supply
 cleared t s = pick t (withFeve 0 s) s
 
--- first stage: what the act itself does, before FEVE gains
+-- first stage: what the act itself does, before FEVE gains any bit
 unfoldable pub acted : ℕ → Supply → Act → Supply
 acted m s (Lines b) = linesChanged s b
 acted m s (Sample v a) = sampled m s v a
@@ -83,7 +83,7 @@ clearingAct Nothing = false
 abbrev pub closed : Act → Supply → Supply
 closed a s = cleared (clearingAct a) s
 
--- AN EVENT, as the paper calls it, and what it leaves: an act that is not refused, in its three stages. What is refused is no
--- event and changes nothing.
+-- AN EVENT, as the paper calls it, and what it leaves: an act that is not refused, in its three stages.
+-- A refused act is no event and changes nothing.
 unfoldable pub performed : ℕ → Supply → Act → Supply
 performed m s a = pick (eqb (codeOf m s a) 0) (closed a (settled s (acted m s a))) s

@@ -1,4 +1,4 @@
--- WHAT HOLDS OF A SUPPLY'S STATE BESIDES ITS SETTINGS: a known MODE, listed LINES, no FOLD trip without foldback armed.
+-- INVARIANTS OF A SUPPLY'S STATE BESIDES ITS SETTINGS: a known MODE, listed LINES, no FOLD trip without foldback armed.
 use Prim.Native.Nat.{ℕ, _≤_, _<_}
 use mathlib.Core.Path.{_≡_}
 use mathlib.Core.Bool.{Bool, true}
@@ -9,11 +9,11 @@ use Rattle.supply.specs.declared.Order.the-variants.{Set, Ovm, Out, Fld, Ast, R
 use Rattle.supply.specs.declared.Act.{Act}
 use Rattle.supply.specs.declared.Act.the-variants.{Lines, Sample, Press, Turn, Obey, Ask, Nothing}
 
--- no bit is set but AC 1, OTP 2, SO 5 and ENA 7, where the number is a byte, as in the code it always is
+-- if the number is a byte, as it always is in the code, then no bit is set except AC 1, OTP 2, SO 5 and ENA 7
 abbrev pub Listed : ℕ → Type 0
 Listed b = b < 256 → bitAnd b 0xA6 ≡ b
 
--- of the parts of a supply that hang together
+-- the parts of a supply's state that must agree
 pub record Agreeing (mode lines : ℕ) (fold armed : Bool) : Type 0 where
   -- MODE is local, remote or locked out
   pub mode-known : mode ≤ 2
@@ -24,7 +24,7 @@ pub record Agreeing (mode lines : ℕ) (fold armed : Bool) : Type 0 where
 abbrev pub Coherent : Supply → Type 0
 Coherent s = Agreeing (s .mode) (s .lines) (s .«fold_trip») (s .armed)
 
--- the acts that calls can bring: RMT names a mode, and LINES has listed bits; nothing is asked of the others
+-- the acts that calls can cause: RMT names a mode, and LINES has only listed bits; the others have no condition
 abbrev pub CheckedOrder : Order → Type 0
 CheckedOrder (Rmt k) = k ≤ 2
 CheckedOrder (Set t n) = Unit

@@ -1,4 +1,4 @@
--- WHAT AN EVENT LEAVES IN FEVE, bit by bit. The event is a whole act, and FLT after it is that of the supply it leaves.
+-- WHAT AN EVENT LEAVES IN FEVE, bit by bit. The event is a whole act; FLT after it is the FLT of the supply it leaves.
 use Prim.Native.Nat.{ℕ, _<_}
 use mathlib.Core.Path.{_≡_}
 use mathlib.Core.Logic.{_⊎_}
@@ -22,21 +22,21 @@ clearsFeve (Press k) = false
 clearsFeve (Turn t raw) = false
 clearsFeve Nothing = false
 
--- and no other act: the rows of `clearingQuery`, `clearingOrder` and of this in one place
+-- no other act clears FEVE: this sums up the rows of `clearingQuery`, `clearingOrder` and `clearsFeve`
 abbrev pub ClearingActs : Type 0
 ClearingActs = (a : Act) → clearsFeve a ≡ true → (a ≡ Ask query.Feve) ⊎ ((a ≡ Obey Cls) ⊎ (a ≡ Obey Rst))
 
--- fault bit k was 0, is 1 after the act, and FENA enabled it as it stood before
+-- fault bit k was 0 before the act and is 1 after it, and FENA enabled it before the act
 abbrev pub gains : ℕ → Supply → Act → ℕ → Bool
 gains m s a k = (bitAt k (fltOf (performed m s a)) && not (bitAt k (fltOf s))) && bitAt k (s .fena)
 
 pub record FeveGain (m : ℕ) (s : Supply) (a : Act) : Type 0 where
-  -- a refused order leaves all as it was, FEVE too
+  -- a refused order leaves everything as it was, FEVE included
   pub refused : (codeOf m s a ≡ 0 → ⊥) → performed m s a ≡ s
-  -- after an accepted act that does not clear it, FEVE has the bits that it had and those that it gains
+  -- after an accepted act that does not clear it, FEVE has the bits it had and those it gains
   pub bits : codeOf m s a ≡ 0 → clearsFeve a ≡ false → (k : ℕ) → k < 8
       → bitAt k (performed m s a .feve) ≡ (bitAt k (s .feve) || gains m s a k)
-  -- so FEVE stays the same number where no bit is gained
+  -- so FEVE stays the same number if it gains no bit
   pub none : clearsFeve a ≡ false → ((k : ℕ) → k < 8 → gains m s a k ≡ false) → performed m s a .feve ≡ s .feve
-  -- FEVE?, CLS and RST leave it 0, whatever rose
+  -- FEVE?, CLS and RST leave FEVE 0, whatever rose
   pub clears : clearsFeve a ≡ true → performed m s a .feve ≡ 0

@@ -20,12 +20,12 @@ abbrev pub isSet : Trip → Supply → Bool
 isSet fold s = s .«fold_trip»
 isSet ovp s = s .«ovp_trip»
 
--- is it the OVP trip
+-- whether it is the OVP trip
 abbrev pub isOvp : Trip → Bool
 isOvp fold = false
 isOvp ovp = true
 
--- accepted OUT 1; RST; and for FOLD, ARMED going off
+-- an accepted OUT 1; RST; and for FOLD, FLD 0 that turns ARMED off
 abbrev pub orderReleases : ℕ → Trip → Supply → Order → Bool
 orderReleases m k s (Out true) = eqb (orderCode m s (Out true)) 0
 orderReleases m k s Rst = true
@@ -39,13 +39,14 @@ orderReleases m k s (Rmt j) = false
 orderReleases m k s (Fena b) = false
 orderReleases m k s Cls = false
 
--- the OUTPUT key that turns on; and for FOLD, the FOLD key that turns ARMED off
+-- the OUTPUT key that turns the output on; and for FOLD, the FOLD key that turns ARMED off
 abbrev pub keyReleases : Trip → Supply → Key → Bool
 keyReleases k s key.Output = eqb (s .mode) 0 && (not (onOf s) && linesClear s)
 keyReleases k s key.Fold = not (isOvp k) && (eqb (s .mode) 0 && s .armed)
 keyReleases k s key.Local = false
 
--- is the act, on this supply, a release of the trip; AC falling, and for OVP, SO falling under AST, come by LINES
+-- whether the act, on this supply, is a release of the trip; LINES can bring AC falling and, for OVP, SO falling with
+-- AST on
 unfoldable pub releases : ℕ → Trip → Supply → Act → Bool
 releases m k s (Lines b) = falls 1 (s .lines) b || (isOvp k && (falls 5 (s .lines) b && s .ast))
 releases m k s (Press j) = keyReleases k s j

@@ -1,5 +1,5 @@
 // Layer supply.
-// Whatever a supply can be asked, in three stages: what it does, what the registers gain, and how it closes.
+// The acts of a supply, in three stages: what the act does, what FEVE gains, and how the act closes.
 ghost use mathlib.Core.Path.{_≡_};
 ghost use Rattle.supply.specs.Flt.{settled};
 ghost use Rattle.codes.specs.Codes.{orderCode};
@@ -11,7 +11,7 @@ use supply::Query;
 use supply::Supply;
 use supply::Target;
 
-// FEVE goes to 0 where the test says so.
+// Sets FEVE to 0 if the test is true.
 fn clear_feve(s: Supply, test: bool) -> Supply
     ensures { λ r. ⌜ r ≡ cleared test s ⌝ }
 {
@@ -40,7 +40,7 @@ fn order_clears(o: Order) -> bool
     }
 }
 
-// Second stage of an act that no supply refuses; it closes as it is.
+// The second stage of an act that no supply refuses; its third stage changes nothing.
 fn accept(before: Supply, after: Supply) -> Outcome
     ensures { λ r. ⌜ (r .code ≡ 0) × (r .supply ≡ settled before after) ⌝ }
 {
@@ -50,9 +50,10 @@ fn accept(before: Supply, after: Supply) -> Outcome
     }
 }
 
-// A figure for a setting. What is refused changes nothing; a setting shows in no bit of FLT, so that FEVE gains nothing.
+// A figure for a setting. A refused one changes nothing; no bit of FLT depends on a setting, so FEVE gains nothing.
 pub fn obey_set(model: u8, s: Supply, t: Target, n: u64) -> Outcome
-    ensures { λ r. ⌜ (r .code ≡ orderCode model s (Order.Set t n)) × (r .supply ≡ performed model s (Act.Obey (Order.Set t n))) ⌝ }
+    ensures { λ r. ⌜ (r .code ≡ orderCode model s (Order.Set t n))
+        × (r .supply ≡ performed model s (Act.Obey (Order.Set t n))) ⌝ }
 {
     let code = codes::set_code(model, s, t, n);
     if code == 0 {
@@ -65,7 +66,7 @@ pub fn obey_set(model: u8, s: Supply, t: Target, n: u64) -> Outcome
     Outcome { code, supply: s }
 }
 
-// An order: its code, and the supply after it. What is refused changes nothing, and CLS and RST close with FEVE 0.
+// An order: its error code, and the supply after it. A refused order changes nothing; CLS and RST close with FEVE 0.
 pub fn obey_order(model: u8, s: Supply, o: Order) -> Outcome
     ensures { λ r. ⌜ (r .code ≡ orderCode model s o) × (r .supply ≡ performed model s (Act.Obey o)) ⌝ }
 {
@@ -80,21 +81,21 @@ pub fn obey_order(model: u8, s: Supply, o: Order) -> Outcome
     }
 }
 
-// A sample, and what the registers gain by it.
+// A sample, and what FEVE gains from it.
 pub fn sampled(model: u8, s: Supply, v: u16, a: u16) -> Supply
     ensures { λ r. ⌜ r ≡ performed model s (Act.Sample v a) ⌝ }
 {
     supply::settle(s, samples::sampled_at(model, s, v, a))
 }
 
-// A query. It leaves FLT as it was, so that FEVE gains nothing; no query needs the model, which goes with every act.
+// A query. It leaves FLT as it was, so FEVE gains nothing; no query needs the model, but every act takes one.
 pub fn asked(model: u8, s: Supply, q: Query) -> Supply
     ensures { λ r. ⌜ r ≡ performed model s (Act.Ask q) ⌝ }
 {
     clear_feve(s, query_clears(q))
 }
 
-// An act: its code, and the supply after it. Only an order can be refused.
+// An act: its error code, and the supply after it. Only an order can be refused.
 pub fn perform(model: u8, s: Supply, a: Act) -> Outcome
     ensures { λ r. ⌜ (r .code ≡ codeOf model s a) × (r .supply ≡ performed model s a) ⌝ }
 {

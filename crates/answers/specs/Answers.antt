@@ -22,11 +22,11 @@ switchOf false = Off
 unfoldable pub modeWord : ℕ → Word
 modeWord k = pick (eqb k 0) Loc (pick (eqb k 1) Rem Llo)
 
--- OFF; else CC with the current in limit; else CV
+-- OFF if the output is off; otherwise CC if the current is in limit, and CV if it is not
 unfoldable pub running : ℕ → Supply → Word
 running m s = pick (onOf s) (pick (inLimit m s) Cc Cv) Off
 
--- a figure has its decimals, four for volts and three for amperes; OUT? tells the output and not WANT
+-- a figure has four decimals for volts and three for amperes; OUT? reports the output, not WANT
 unfoldable pub answerOf : ℕ → Supply → Query → QueryAnswer
 answerOf m s Pv = Figure 4 (s .pv)
 answerOf m s Pc = Figure 3 (s .pc)

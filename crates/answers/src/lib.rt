@@ -1,5 +1,5 @@
 // Layer supply.
-// What a query is answered: a figure, a word or a byte, of the supply as it stands.
+// The answers to queries: a figure, a word or a byte, from the supply as it stands.
 ghost use mathlib.Core.Path.{_≡_};
 ghost use Rattle.answers.specs.Answers.{switchOf, modeWord, running, answerOf};
 use supply::Query;
@@ -39,7 +39,7 @@ fn running_word(model: u8, s: Supply) -> Word
     }
 }
 
-// The answer to a query, the supply as it stands before it.
+// The answer to a query, from the supply as it stands before the query.
 pub fn answer_to(model: u8, s: Supply, q: Query) -> QueryAnswer
     ensures { λ r. ⌜ r ≡ answerOf model s q ⌝ }
 {

@@ -1,4 +1,4 @@
--- What the code reads of a line, over plain lists: its word by number.
+-- What the code reads from a line, over plain lists: the word, by its number.
 use Prim.Native.Nat.{ℕ, _+_, _<_}
 use mathlib.Core.Path.{_≡_, refl, sym, ap}
 use mathlib.Core.List.{List}
@@ -14,7 +14,7 @@ use Rattle.words.proofs.Table.{Bytes, find-by-number}
 use Rattle.asks.specs.Words.{commands, unknownWord, commandOf, askedBy}
 use Rattle.asks.specs.Asked.{wordOf, parameterText}
 
--- the arm of a word with this number
+-- the arm for a word with this number
 pub by-key : (x : List ℕ) {n k : ℕ} → n ≡ k → askedBy (findNumber unknownWord commands k) x ≡ askedBy (findNumber unknownWord commands n) x
 by-key x e = ap (λ (j : ℕ). askedBy (findNumber unknownWord commands j) x) (sym e)
 

@@ -1,4 +1,4 @@
--- The command words, by their characters, with what each takes and asks.
+-- The command words, by their characters, with what each takes and what it asks.
 use Prim.Native.Nat.{ℕ}
 use mathlib.Core.List.{List, [], _∷_}
 use lib.Dec.{eqb}
@@ -36,7 +36,7 @@ decimalsOf target.Pc = 3
 decimalsOf target.Ovp = 4
 decimalsOf target.Uvl = 4
 
--- what an order's word takes
+-- the parameter that an order's word takes
 abbrev pub kindOfOrder : OrderWord → Kind
 kindOfOrder (set t) = number (decimalsOf t)
 kindOfOrder ovm = bare
@@ -48,7 +48,7 @@ kindOfOrder fena = hex
 kindOfOrder cls = bare
 kindOfOrder rst = bare
 
--- the order with a good value; a word that takes none leaves it aside
+-- the order with a good value, which a word without a parameter ignores
 abbrev pub orderWith : OrderWord → ℕ → Order
 orderWith (set t) v = Set t v
 orderWith ovm v = Ovm
@@ -60,7 +60,7 @@ orderWith fena v = Fena v
 orderWith cls v = Cls
 orderWith rst v = Rst
 
--- a command word: an order to the supply selected, a query of it, an order to every fitted supply, ADR, or none of these
+-- a command word: an order or a query to the selected supply, an order to every fitted supply, ADR, or none of these
 pub data Command : Type 0 where
   toOne : OrderWord → Command
   ofOne : Query → Command
@@ -68,7 +68,7 @@ pub data Command : Type 0 where
   selecting : Command
   unknownWord : Command
 
--- what a word takes; what it asks with a good value, and what it is with a code
+-- the parameter that a word takes; what the line asks with a good value; and what the line is with an error code
 abbrev pub kindOf : Command → Kind
 kindOf (toOne o) = kindOfOrder o
 kindOf (ofOne q) = bare
@@ -126,18 +126,19 @@ commands =
     (codes "GRST", toAll rst) ∷
     []
 
--- the command of a word in capitals
+-- the command for a word in capitals
 abbrev pub commandOf : List ℕ → Command
 commandOf w = findWord unknownWord commands w
 
--- an order to one supply, or the code of its parameter; and to every fitted one, which in error nobody takes
+-- an order to one supply, or the error code of its parameter; and an order to every fitted supply, which nobody takes
+-- if its parameter is in error
 abbrev pub oneOrder : Order → ℕ → Asks
 oneOrder o c = pick (eqb c 0) (One (Obey o)) (Error c)
 
 abbrev pub allOrder : Order → ℕ → Asks
 allOrder o c = pick (eqb c 0) (Everyone o) Nobody
 
--- what a command asks with a parameter as it was read, and with its text
+-- what a command asks, given its parameter as read, and given the parameter's text
 abbrev pub askedWith : Command → Parameter → Asks
 askedWith k p = pick (eqb (p .code) 0) (asksWith k (p .value)) (failsWith k (p .code))
 

@@ -1,5 +1,5 @@
 // Layer line.
-// What a line asks, by its word and its parameter: an order, a query, an address to select, or a code.
+// What a line asks, by its word and its parameter: an order, a query, an address to select, or an error code.
 ghost use mathlib.Core.Path.{_≡_};
 ghost use Prim.Native.Nat.{_≤_};
 ghost use Rattle.words.specs.Words.{findNumber};
@@ -12,8 +12,9 @@ use supply::Order;
 use supply::Query;
 use supply::Target;
 
-// What a line asks: to select an address (or it is an ADR in error, with its code); an order of every fitted supply
-// (or it is a global in error, which nobody takes); an act of one supply; or it is a line in error, with its code.
+// What a line asks: to select an address (or it is an ADR in error, with its error code); an order to every fitted
+// supply (or it is a global line in error, which nobody takes); an act of one supply; or it is a line in error, with
+// its error code.
 pub enum Asks {
     Select(u8),
     BadSelect(u8),
@@ -25,7 +26,7 @@ pub enum Asks {
 
 pub const C01: u8 = 0xC1;
 
-// An order to one supply, or the code of its parameter.
+// An order to one supply, or the error code of its parameter.
 fn one_order(o: Order, code: u8) -> Asks
     ensures { λ r. ⌜ r ≡ oneOrder o code ⌝ }
 {
@@ -36,7 +37,7 @@ fn one_order(o: Order, code: u8) -> Asks
     }
 }
 
-// An order to every fitted supply; in error, nobody takes it.
+// An order to every fitted supply; nobody takes it if it is in error.
 fn all_order(o: Order, code: u8) -> Asks
     ensures { λ r. ⌜ r ≡ allOrder o code ⌝ }
 {
@@ -141,7 +142,7 @@ fn select_one(x: &[u8]) -> Asks
     }
 }
 
-// The words as numbers: a 1, and then a byte for each character.
+// The words as numbers: a leading 1, then one byte per character.
 const PV: u64 = 0x1_50_56;
 
 const PC: u64 = 0x1_50_43;
@@ -204,7 +205,7 @@ const GOUT: u64 = 0x1_47_4f_55_54;
 
 const GRST: u64 = 0x1_47_52_53_54;
 
-// What the word with this number asks of its parameter: an arm for each order and query.
+// What a line asks with the word of this number and this parameter: one arm for each order and query.
 fn asks_of_word(word: u64, x: &[u8]) -> Asks
     ensures { λ r. ⌜ r ≡ askedBy (findNumber unknownWord commands word) (now (x .entry)) ⌝ }
 {

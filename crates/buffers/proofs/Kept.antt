@@ -1,4 +1,4 @@
--- Bytes moved down to the start of their buffer, one after the other.
+-- Bytes moved down to the start of their buffer, one after another.
 use Prim.Native.Nat.{ℕ, _+_, _-_, _≤_, _<_, min}
 use mathlib.Core.Path.{_≡_, refl, sym, ap, _∙_}
 use mathlib.Core.List.{List}
@@ -8,7 +8,7 @@ use lib.ListN.{length, getD, set, take, drop, length-take, length-drop, length-a
 use lib.Seq.{drop-drop, drop-set-lt, take-suc, take-suc-set, take-all, take-append-seam, getD-take, getD-drop}
 use Rattle.buffers.specs.Kept.{Kept}
 
--- i of the bytes from index used on, before index n, stand at the start, and behind them all is as it was
+-- the first i of the bytes from index used on, before index n, stand at the start; everything after them is unchanged
 pub record Moved (before : List ℕ) (used n i : ℕ) (b : List ℕ) : Type 0 where
   pub behind : drop i b ≡ drop i before
   pub moved : take i b ≡ take i (drop used (take n before))
@@ -45,7 +45,7 @@ module _ (before b : List ℕ) (used n i : ℕ) (m : Moved before used n i b) wh
       first =
           rw (add-one, take-suc-set b i (getD b (used + i) d) (omega (arith, low, same)), take-suc part i d (omega (arith, low, part-length)), byte, m .moved) refl
 
-  -- all of them are moved
+  -- all of them have been moved
   module _ (no-more : i ≤ min n (length before) - used) (no-less : min n (length before) ≤ used + i) where
     count-is : i ≡ length part
     count-is = omega (arith, no-more, no-less, part-length)
@@ -55,7 +55,7 @@ module _ (before b : List ℕ) (used n i : ℕ) (m : Moved before used n i b) wh
         let first : take i b ≡ part = m .moved ∙ take-all i part (omega (arith, count-is)) in
         record { count = count-is; is = sym (take-append-drop i b) ∙ rw (first, m .behind) refl }
 
--- the bytes that were moved, and that there are so many
+-- the bytes that were moved, and that the buffer holds that many
 pub kept-part : {before after : List ℕ} {used n k : ℕ} → Kept before used n k after → (take k after ≡ drop used (take n before)) × (k ≤ length after)
 kept-part {before = before} {after = after} {used = used} {n = n} {k = k} d =
     let p : List ℕ = drop used (take n before) in

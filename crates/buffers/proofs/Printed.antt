@@ -1,4 +1,4 @@
--- Bytes printed up to an index: past the end of the buffer there are none.
+-- Bytes printed up to an index; past the end of the buffer there are none.
 use Prim.Native.Nat.{ℕ, zero, suc, min}
 use mathlib.Core.Path.{_≡_, refl, sym, ap, _∙_}
 use mathlib.Core.Bool.{Bool, true, false}
@@ -19,7 +19,7 @@ each-there f k n l e = byTest (ltb n (length l)) refl
     byTest true h = let same : k ≡ n = omega (arith, e, ltb-true n (length l) h) in rw same refl
     byTest false h = eachTo-all f k l 0 (omega (arith, e, ltb-false n (length l) h)) ∙ sym (eachTo-all f n l 0 (ltb-false n (length l) h))
 
--- where lines are to end by CR nothing changes
+-- if lines end with CR, nothing changes
 pub printed-cr : (b : ℕ) → printed 13 b ≡ b
 unfolding printed
 printed-cr b = byTest (eqb b 13) refl
@@ -37,7 +37,7 @@ pub map-cr : (l : List ℕ) → map (printed 13) l ≡ l
 map-cr [] = refl
 map-cr (b ∷ l) = rw (printed-cr b, map-cr l) refl
 
--- the bytes at the start of a buffer, printed, and what is behind them as it was
+-- the bytes at the start of a buffer are printed, and those after them stay unchanged
 pub each-first : (f : ℕ → ℕ) (xs ys : List ℕ) → eachTo (λ i b. f b) (length xs) (xs ++ ys) ≡ map f xs ++ ys
 each-first f [] ys = refl
 each-first f (x ∷ xs) ys = ap (λ (l : List ℕ). f x ∷ l) (each-first f xs ys)

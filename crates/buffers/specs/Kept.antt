@@ -1,4 +1,5 @@
--- What is left of the input: k of the first n bytes, those from index used on, stand at the start; behind them all is as it was.
+-- The unused rest of the input, moved to the start of the buffer: of the first n bytes, the k from index used on.
+-- Everything after the first k bytes is unchanged.
 use Prim.Native.Nat.{ℕ}
 use mathlib.Core.Path.{_≡_}
 use mathlib.Core.List.{List, _++_}

@@ -1,4 +1,4 @@
--- How a byte of a reply is printed where its lines end by another byte than CR (13).
+-- How a byte of a reply is printed: a CR (13) becomes the line ending in use.
 use Prim.Native.Nat.{ℕ}
 use lib.Dec.{eqb}
 use Rattle.base.specs.Choice.{pick}

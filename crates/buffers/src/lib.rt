@@ -1,5 +1,5 @@
 // Layer ground.
-// The bytes that a program has in its buffers: replies as they are printed, and what is left of the input.
+// A program's buffers: replies as they are printed, and the unused rest of the input.
 ghost use mathlib.Core.Path.{_≡_};
 ghost use Rattle.base.specs.Lists.{eachTo};
 ghost use Rattle.buffers.specs.Printed.{printed};
@@ -13,7 +13,7 @@ fn printed_byte(ending: u8, b: u8) -> u8
     if b == CR { ending } else { b }
 }
 
-// The first n bytes with another byte for each CR.
+// Replaces each CR among the first n bytes with the line ending.
 pub fn end_lines(out: &mut [u8], n: usize, ending: u8)
     ensures { λ _. ⌜ now (out .exit) ≡ eachTo (λ i b. printed ending b) n (now (out .entry)) ⌝ }
 {
@@ -28,7 +28,7 @@ pub fn end_lines(out: &mut [u8], n: usize, ending: u8)
     }
 }
 
-// Of the first n bytes, moves those from an index on to the start, and tells how many they are.
+// Of the first n bytes, moves those from index used on to the start, and returns how many there are.
 pub fn keep_rest(room: &mut [u8], used: usize, n: usize) -> usize
     ensures { λ k. ⌜ Kept (now (room .entry)) used n k (now (room .exit)) ⌝ }
 {

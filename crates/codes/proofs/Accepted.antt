@@ -1,4 +1,4 @@
--- An accepted figure: it passed each check in turn, so it lies where its setting may stand, and fits 32 bits.
+-- An accepted figure: it passed each check in turn, so it lies in the range of its setting, and fits in 32 bits.
 use mathlib.Core.Path.{_≡_}
 use mathlib.Core.Bool.{_||_}
 use Prim.Native.Nat.{ℕ, _*_, _%_, _^_, _<_, _≤_}
@@ -18,7 +18,7 @@ use Rattle.supply.specs.declared.Order.the-variants.{Set}
 use Rattle.codes.specs.Codes.{above105, setCode, orderCode}
 
 module _ (l : Limits) (s : Supply) where
-  -- the checks of a figure let through what lies between the least and the most value, on any supply
+  -- a figure that passes the checks lies between the least and the greatest value, on any supply
   pub accepted-range : (t : Target) (n : ℕ) → setCode l s t n ≡ 0 → (leastOf l s t ≤ n) × (n ≤ mostOf l s t)
   unfolding setCode leastOf mostOf
   accepted-range Pv n e =
@@ -47,7 +47,7 @@ module _ (l : Limits) (s : Supply) where
       let uvl-margin : 20 * n ≤ 19 * s .pv = ltb-false _ _ (b .0) in
       (omega arith, omega arith)
 
--- so it fits 32 bits under every model
+-- so it fits in 32 bits under every model
 set-fits : (m : ℕ) (s : Supply) (t : Target) (n : ℕ) → setCode (limitsOf m) s t n ≡ 0 → n < 2 ^ 32
 set-fits m s t n e = omega (arith, accepted-range (limitsOf m) s t n e .1, most-fits m s t)
 

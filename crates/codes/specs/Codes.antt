@@ -1,4 +1,4 @@
--- The code of an order: its checks in turn, the first that fails deciding.
+-- The error code of an order: the first check that fails decides.
 use Prim.Native.Nat.{ℕ, _*_}
 use mathlib.Core.Bool.{Bool, true, false, _||_}
 use lib.Dec.{ltb}
@@ -13,11 +13,11 @@ use Rattle.supply.specs.declared.Order.the-variants.{Set, Ovm, Out, Fld, Ast, R
 use Rattle.supply.specs.State.{c05, e01, e02, e04, e06, e07}
 use Rattle.supply.specs.Flt.{linesClear}
 
--- more than 105 % of a rating
+-- whether n is more than 105 % of a rating
 abbrev pub above105 : ℕ → ℕ → Bool
 above105 rating n = ltb (21 * rating) (20 * n)
 
--- a figure for a setting, under any five limits: its checks in turn, the first that fails giving the code
+-- the error code of a figure for a setting, under any five limits: the first check that fails decides
 unfoldable pub setCode : Limits → Supply → Target → ℕ → ℕ
 setCode l s Pv n =
     pick (above105 (l .volts) n) c05
@@ -31,12 +31,12 @@ setCode l s Uvl n =
     pick (ltb (l .«uvl_most») n) c05
     (pick (ltb (19 * s .pv) (20 * n)) e06 0)
 
--- OUT 1 is E07 where LINES is not 0, OUT 0 has no check
+-- OUT 1 draws E07 unless LINES is 0; OUT 0 has no check
 abbrev pub outCode : Bool → Bool → ℕ
 outCode true clear = pick clear 0 e07
 outCode false clear = 0
 
--- an order to a supply of model m
+-- the error code of an order to a supply of model m; 0 if the order is accepted
 unfoldable pub orderCode : ℕ → Supply → Order → ℕ
 orderCode m s (Set t n) = setCode (limitsOf m) s t n
 orderCode m s Ovm = 0

@@ -1,5 +1,5 @@
 // Layer supply.
-// The code that an order draws: its checks in turn, and 0 where it is accepted.
+// The error code that an order draws: the first check that fails decides, and 0 means accepted.
 ghost use mathlib.Core.Path.{_≡_};
 ghost use mathlib.Core.Bool.{_||_};
 ghost use Prim.Native.Nat.{_*_};
@@ -23,9 +23,10 @@ const E06: u8 = 0xE6;
 
 const E07: u8 = 0xE7;
 
-// Above 105 % is tested by a division first, so that no number is too large for the products after it.
+// The test for more than 105 % divides, so n is small enough for the products in the tests that follow.
 fn pv_code(volts: u32, ovp: u32, uvl: u32, n: u64) -> u8
-    ensures { λ r. ⌜ r ≡ pick (above105 volts n) c05 (pick (ltb (20 * ovp) (21 * n)) e01 (pick (ltb (19 * n) (20 * uvl)) e02 0)) ⌝ }
+    ensures { λ r. ⌜ r ≡ pick (above105 volts n) c05
+        (pick (ltb (20 * ovp) (21 * n)) e01 (pick (ltb (19 * n) (20 * uvl)) e02 0)) ⌝ }
 {
     if 21 * (volts as u64) / 20 < n {
         C05
@@ -70,8 +71,8 @@ fn uvl_code(most: u32, pv: u32, n: u64) -> u8
     }
 }
 
-// The code of PV n, PC n, OVP n or UVL n. Each arm looks up its limits for itself: the compiler then reads
-// only those that the arm needs.
+// The error code of PV n, PC n, OVP n or UVL n. Each arm looks up the limits for itself, so that the compiler
+// reads only those the arm needs.
 pub fn set_code(model: u8, s: Supply, t: Target, n: u64) -> u8
     ensures { λ r. ⌜ r ≡ setCode (limitsOf model) s t n ⌝ }
 {
@@ -101,7 +102,7 @@ fn out_code(on: bool, clear: bool) -> u8
     if on { if clear { 0 } else { E07 } } else { 0 }
 }
 
-// The code of an order, 0 where it is accepted.
+// The error code of an order; 0 if it is accepted.
 pub fn order_code(model: u8, s: Supply, o: Order) -> u8
     ensures { λ r. ⌜ r ≡ orderCode model s o ⌝ }
 {

@@ -1,4 +1,4 @@
--- What the code reads of a line, over plain lists: its checksum.
+-- What the code reads from a line, over plain lists: its checksum.
 use Prim.Native.Nat.{ℕ, _+_, _-_, _≤_}
 use mathlib.Core.Path.{_≡_, refl, ap, _∙_}
 use mathlib.Core.List.{List}
@@ -10,7 +10,7 @@ use Rattle.figures.specs.declared.Number.{Number}
 use Rattle.hex.specs.Hex.{readHex, checksum}
 use Rattle.command.specs.Lines.{beforeChecksum, rightChecksum}
 
--- the checksum, of a line of three characters or more
+-- the checksum of a line of three or more characters
 pub right-checksum :
     (s a b : List ℕ) (told : Number) (x w : ℕ)
     → 3 ≤ length s

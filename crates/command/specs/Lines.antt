@@ -12,22 +12,25 @@ use Rattle.command.specs.declared.Heard.{Heard}
 use Rattle.parameters.specs.Parameters.{c01, c04}
 use Rattle.asks.specs.Asked.{asksOf}
 
--- a line has a checksum where its third last character is $ (36)
+-- a line has a checksum if its third character from the end is $ (36)
 abbrev pub hasChecksum : List ℕ → Bool
 hasChecksum t = leb 3 (length t) && eqb (getD t (length t - 3) 0) 36
 
--- what stands before the $, and the two characters after it
+-- the characters before the $
 abbrev pub beforeChecksum : List ℕ → List ℕ
 beforeChecksum t = take (length t - 3) t
 
--- the last two are hexadecimal digits of either case and are the checksum of all bytes before the $
+-- the last two characters are hexadecimal digits in either case and give the checksum of all bytes before the $
 unfoldable pub rightChecksum : List ℕ → Bool
-rightChecksum t = readHex (drop (length t - 2) t) .good && eqb (readHex (drop (length t - 2) t) .value) (checksum (beforeChecksum t))
+rightChecksum t =
+    readHex (drop (length t - 2) t) .good
+    && eqb (readHex (drop (length t - 2) t) .value) (checksum (beforeChecksum t))
 
 abbrev pub heardAs : Asks → Bool → Heard
 heardAs a t = record { asks = a; checksummed = t }
 
--- a line at its CR: spoiled is C01, a wrong checksum C04; a right checksum is taken off, once, and the reply will carry one
+-- a line at its CR: a spoiled line is C01, and a wrong checksum is C04; a right checksum is taken off, once, and the
+-- reply will carry one
 unfoldable pub heardOf : List ℕ → Bool → Heard
 heardOf t spoiled =
     pick spoiled (heardAs (Error c01) false)

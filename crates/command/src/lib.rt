@@ -1,5 +1,5 @@
 // Layer line.
-// One line of text: its checksum, what is left without it, and what that asks, from the line alone.
+// One line of text: its checksum, the rest of the line, and what that asks, from the line alone.
 ghost use mathlib.Core.Path.{_≡_};
 ghost use Prim.Native.Nat.{_≤_};
 ghost use lib.ListN.{length};
@@ -7,7 +7,7 @@ ghost use Rattle.command.specs.Lines.{heardAs, rightChecksum, heardOf};
 use asks::Asks;
 use asks::C01;
 
-// What a line asks, and whether it had a right checksum, so that its reply carries one.
+// What a line asks, and whether it had a right checksum; if it had, its reply carries one too.
 pub struct Heard {
     pub asks: Asks,
     pub checksummed: bool,
@@ -21,7 +21,7 @@ fn heard_as(asks: Asks, checksummed: bool) -> Heard
     Heard { asks, checksummed }
 }
 
-// Whether the last two characters are the checksum of all before the $ that stands before them.
+// Whether the last two characters are the checksum of everything before the $ in front of them.
 fn right_checksum(s: &[u8]) -> bool
     requires { ⌜ 3 ≤ length (now s) ⌝ }
     ensures { λ r. ⌜ r ≡ rightChecksum (now (s .entry)) ⌝ }
@@ -32,7 +32,7 @@ fn right_checksum(s: &[u8]) -> bool
     told.good & (told.value == base::wide(checksum))
 }
 
-// A line at its CR.
+// What a line asks, read at its CR.
 pub fn read_line(s: &[u8], spoiled: bool) -> Heard
     ensures { λ r. ⌜ r ≡ heardOf (now (s .entry)) spoiled ⌝ }
 {

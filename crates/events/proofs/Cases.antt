@@ -1,4 +1,4 @@
--- A formula for each field, against the paper's sentences: by cases on their tests.
+-- A formula for each part of the state, compared with the paper's sentences by cases on their tests.
 use mathlib.Core.Path.{_≡_, refl}
 use mathlib.Core.Bool.{Bool, true, false, not, _&&_}
 use Prim.Native.Nat.{ℕ}
@@ -9,7 +9,7 @@ use Rattle.supply.specs.With.{withWant, withArmed, withMode, withLines, withFol
 use Rattle.events.specs.Events.{anyRises, falls, acFallen, linesChanged, disarmed}
 
 module _ (s : Supply) (b : ℕ) where
-  -- rose: a bit rose while AST is off; ac: AC fell; so: SO fell under AST
+  -- rose: a bit rose while AST is off; ac: AC fell; so: SO fell while AST is on
   lines-cases : (rose ac so : Bool) →
       withLines b
       (withWant (not rose && s .want)

@@ -11,28 +11,28 @@ use supply::Key;
 use supply::Supply;
 use supply::Target;
 
-// Any bit of LINES rises.
+// Whether any bit of LINES rises.
 fn any_rises(old: u8, new: u8) -> bool
     ensures { λ r. ⌜ r ≡ anyRises old new ⌝ }
 {
     new & !old != 0
 }
 
-// AC, bit 1 of LINES, falls.
+// Whether AC, bit 1 of LINES, falls.
 fn ac_falls(old: u8, new: u8) -> bool
     ensures { λ r. ⌜ r ≡ falls 1 old new ⌝ }
 {
     (old / 2 % 2 == 1) & !(new / 2 % 2 == 1)
 }
 
-// SO, bit 5 of LINES, falls.
+// Whether SO, bit 5 of LINES, falls.
 fn so_falls(old: u8, new: u8) -> bool
     ensures { λ r. ⌜ r ≡ falls 5 old new ⌝ }
 {
     (old / 32 % 2 == 1) & !(new / 32 % 2 == 1)
 }
 
-// MODE after AC fell: locked out becomes remote.
+// MODE after a change of LINES: if AC fell, locked out becomes remote.
 fn unlocked(fell: bool, mode: u8) -> u8
     ensures { λ r. ⌜ r ≡ pick fell (pick (eqb mode 2) 1 mode) mode ⌝ }
 {
@@ -60,7 +60,7 @@ pub fn lines_changed(s: Supply, b: u8) -> Supply
     t
 }
 
-// Trips clear and WANT goes on.
+// Releases both trips and turns WANT on.
 pub fn turn_on(s: Supply) -> Supply
     ensures { λ r. ⌜ r ≡ turnedOn s ⌝ }
 {
@@ -71,7 +71,7 @@ pub fn turn_on(s: Supply) -> Supply
     t
 }
 
-// ARMED goes off; a FOLD trip then clears and turns WANT off.
+// Turns ARMED off; if there was a FOLD trip, releases it and turns WANT off.
 pub fn disarm(s: Supply) -> Supply
     ensures { λ r. ⌜ r ≡ disarmed s ⌝ }
 {
@@ -109,7 +109,7 @@ fn fold_key(s: Supply) -> Supply
     }
 }
 
-// A key: in MODE 0 only, and LOCAL alone in MODE 1.
+// A key: OUTPUT and FOLD work only in MODE 0, LOCAL only in MODE 1.
 pub fn press(s: Supply, k: Key) -> Supply
     ensures { λ r. ⌜ r ≡ pressed s k ⌝ }
 {
@@ -128,7 +128,7 @@ pub fn press(s: Supply, k: Key) -> Supply
     }
 }
 
-// A knob step: in MODE 0 only.
+// A knob step; it works only in MODE 0.
 pub fn turn(model: u8, s: Supply, t: Target, raw: u32) -> Supply
     ensures { λ r. ⌜ r ≡ turned model s t raw ⌝ }
 {

@@ -1,4 +1,4 @@
--- Laws of what is read: runs of digits, powers of ten, the first of a character, whole units, and numbers.
+-- Laws of reading: runs of digits, powers of ten, the first occurrence of a character, whole units, and numbers.
 use Prim.Native.Nat.{ℕ, zero, suc, _+_, _-_, _*_, _^_, _<_, _≤_}
 use mathlib.Core.Path.{_≡_, refl, ap, _∙_}
 use mathlib.Core.List.{List, [], _∷_}
@@ -34,7 +34,7 @@ unfolding runValue
 run-lt s zero = lit< tt
 run-lt s (suc n) = rw (pow-suc 10 n) (omega (arith, run-lt s n))
 
--- the run with one digit more, at the code's n
+-- a run with one digit more, at the code's n
 pub run-step : (s : List ℕ) (n : ℕ) → 0 < n → runValue s n ≡ runValue s (n - 1) * 10 + digitOf (getD s (n - 1) 0)
 unfolding runValue
 run-step s zero h = absurd (omega arith)
@@ -72,14 +72,14 @@ pub first-end : (x : ℕ) (s : List ℕ) (i : ℕ) → length s ≤ i → firstA
 unfolding firstAt
 first-end x s i h = rw (drop-of-length-le s h) refl
 
--- it lies inside, or at the end
+-- it lies inside the list or at its end
 pub first-le : (x : ℕ) (t : List ℕ) → firstAt x t ≤ length t
 unfolding firstAt
 first-le x [] = omega arith
 first-le x (y ∷ ys) =
     pick-keeps (λ (n : ℕ). n ≤ suc (length ys)) (eqb y x) 0 (suc (firstAt x ys)) (omega arith) (omega (arith, first-le x ys))
 
--- what callers may use of wholeUnits: a whole number of units stays what it is, and no number grows
+-- what callers may use of wholeUnits: a whole number of units keeps its value, and no number grows
 pub units-exact : (v d : ℕ) → 0 < d → wholeUnits (v * d) d ≡ v
 unfolding wholeUnits
 units-exact v d h = mul-div-cancel v h
@@ -88,7 +88,7 @@ pub units-le : (a d : ℕ) → 0 < d → wholeUnits a d ≤ a
 unfolding wholeUnits
 units-le a d h = div-le-self a d
 
--- the digits w and f side by side, as one run; with k zeros more
+-- the digits w and f side by side as one number; and the same with k more zeros
 module _ (w f : List ℕ) where
   abbrev pub side : ℕ
   side = runValue w (length w) * 10 ^ length f + runValue f (length f)
@@ -110,7 +110,7 @@ well-short : (t : List ℕ) → wellFormed t ≡ true → length t ≤ 12
 unfolding wellFormed
 well-short t e = leb-true (length t) 12 (and-eq-true-iff (leb (length t) 12) _ .0 e .0)
 
--- a number is below what 12 digits and k zeros can say
+-- a number is below 10 ^ (12 + k): 12 digits and k zeros
 pub number-lt : (k : ℕ) (t : List ℕ) → readNumber k t .value < 10 ^ (12 + k)
 unfolding readNumber
 number-lt k t = byTest (wellFormed t) refl
@@ -121,7 +121,7 @@ number-lt k t = byTest (wellFormed t) refl
         lt-of-lt-of-le (scaled-lt (whole t) (fraction t) k) (pow-le (length (whole t) + length (fraction t) + k) (12 + k) (omega arith))
     byTest false e = pow-pos (12 + k)
 
--- a text too long
+-- a text that is too long
 pub read-long : (k : ℕ) (t : List ℕ) → 12 < length t → noNumber ≡ readNumber k t
 unfolding readNumber wellFormed
 read-long k t h = rw (lt-leb _ 12 h) refl
@@ -132,7 +132,7 @@ pub record Parted (t w f : List ℕ) : Type 0 where
   pub fraction-is : f ≡ fraction t
   pub short : length t ≤ 12
 
--- as the code makes them, at the index p
+-- the parts as the code makes them, at index p
 pub parted : {t w f : List ℕ} {p : ℕ} → p ≡ firstAt 46 t → w ≡ take p t → f ≡ drop (p + 1) t → length t ≤ 12 → Parted t w f
 parted {t} ep ew ef h =
     record { whole-is = ew ∙ ap (λ (n : ℕ). take n t) ep; fraction-is = ef ∙ ap (λ (n : ℕ). drop (n + 1) t) ep; short = h }

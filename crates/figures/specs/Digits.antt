@@ -13,11 +13,11 @@ unfoldable pub allDigits : List ℕ → Bool
 allDigits [] = true
 allDigits (b ∷ bs) = isDigit b && allDigits bs
 
--- what a digit character stands for
+-- the value of a digit character
 abbrev pub digitOf : ℕ → ℕ
 digitOf b = (b - 48) % 10
 
--- the value of the first n characters of s, by the last digit: ten times the value of those before it, and the digit
+-- the value of the first n characters of s: ten times the value of all but the last, plus the last digit
 unfoldable pub runValue : List ℕ → ℕ → ℕ
 runValue s zero = 0
 runValue s (suc n) = runValue s n * 10 + digitOf (getD s n 0)

@@ -1,4 +1,4 @@
--- A number of the serial line: what is well formed, and its value in units of a decimal.
+-- A number on the serial line: when it is well formed, and its value in units of a decimal place.
 use Prim.Native.Nat.{ℕ, suc, _+_, _*_, _/_, _^_}
 use mathlib.Core.List.{List, [], _∷_}
 use mathlib.Core.Bool.{Bool, true, false, _&&_}
@@ -8,37 +8,40 @@ use Rattle.base.specs.Choice.{pick}
 use Rattle.figures.specs.Digits.{allDigits, runValue}
 use Rattle.figures.specs.declared.Number.{Number}
 
--- the index of the first x, or the length where there is none
+-- the index of the first x, or the length if there is none
 unfoldable pub firstAt : ℕ → List ℕ → ℕ
 firstAt x [] = 0
 firstAt x (y ∷ ys) = pick (eqb y x) 0 (suc (firstAt x ys))
 
--- what stands before the first point (46), and what after it
+-- the text before the first point (46), and the text after it
 abbrev pub whole : List ℕ → List ℕ
 whole t = take (firstAt 46 t) t
 
 abbrev pub fraction : List ℕ → List ℕ
 fraction t = drop (firstAt 46 t + 1) t
 
--- at most 12 characters, no second point, nothing but digits beside the point, and one digit at least
+-- at most 12 characters, only digits and at most one point, and at least one digit
 unfoldable pub wellFormed : List ℕ → Bool
-wellFormed t = leb (length t) 12 && (allDigits (whole t) && (allDigits (fraction t) && ltb 0 (length (whole t) + length (fraction t))))
+wellFormed t =
+    leb (length t) 12
+    && (allDigits (whole t) && (allDigits (fraction t) && ltb 0 (length (whole t) + length (fraction t))))
 
--- a in whole units of d; what is below a unit is cut off
+-- a in whole units of d, rounded down
 unfoldable pub wholeUnits : ℕ → ℕ → ℕ
 wholeUnits a d = a / d
 
--- the digits w before a point and f after it, in units of the k-th decimal: all the digits as one run, over 10 ^ length f
+-- the digits w before a point and f after it as one number, scaled to units of the k-th decimal and rounded down
 unfoldable pub scaledValue : ℕ → List ℕ → List ℕ → ℕ
-scaledValue k w f = wholeUnits ((runValue w (length w) * 10 ^ length f + runValue f (length f)) * 10 ^ k) (10 ^ length f)
+scaledValue k w f =
+    wholeUnits ((runValue w (length w) * 10 ^ length f + runValue f (length f)) * 10 ^ k) (10 ^ length f)
 
--- the answers of a reader: the number v; and that the text is none
+-- the results of reading a text: the number v, or no number
 abbrev pub numberIs : ℕ → Number
 numberIs v = record { good = true; value = v }
 
 abbrev pub noNumber : Number
 noNumber = record { good = false; value = 0 }
 
--- the number that a text is, in units of the k-th decimal
+-- the number that a text spells, in units of the k-th decimal
 unfoldable pub readNumber : ℕ → List ℕ → Number
 readNumber k t = pick (wellFormed t) (numberIs (scaledValue k (whole t) (fraction t))) noNumber

@@ -6,13 +6,13 @@ ghost use lib.ListN.{length, drop};
 ghost use Rattle.figures.specs.Digits.{digitOf, runValue, allDigits};
 ghost use Rattle.figures.specs.Number.{firstAt, wholeUnits, scaledValue, readNumber, noNumber};
 
-// What was read: a number, or that the text is none (good is false, and value 0).
+// The result of reading a text: a number, or good false and value 0 if the text is no number.
 pub struct Number {
     pub good: bool,
     pub value: u64,
 }
 
-// What a digit character stands for. Only a byte that is no digit needs the remainder.
+// The value of a digit character. Only bytes that are not digits need the remainder.
 pub fn digit(b: u8) -> u64
     ensures { λ r. ⌜ r ≡ digitOf b ⌝ }
 {
@@ -25,7 +25,7 @@ pub fn digit(b: u8) -> u64
     }
 }
 
-// The value of the first n characters of s.
+// The value of the first n characters of s, read as digits.
 pub fn run_value(s: &[u8], n: usize) -> u64
     requires { ⌜ (n ≤ 12) × (n ≤ length (now s)) ⌝ }
     ensures { λ r. ⌜ r ≡ runValue (now (s .entry)) n ⌝ }
@@ -37,7 +37,7 @@ pub fn run_value(s: &[u8], n: usize) -> u64
     }
 }
 
-// Whether each character of s is a digit.
+// Whether every character of s is a digit.
 pub fn all_digits(s: &[u8]) -> bool
     ensures { λ r. ⌜ r ≡ allDigits (now (s .entry)) ⌝ }
 {
@@ -55,7 +55,7 @@ pub fn all_digits(s: &[u8]) -> bool
     true
 }
 
-// The index of the first x in s, or its length where there is none.
+// The index of the first x in s, or the length of s if there is none.
 pub fn first_at(s: &[u8], x: u8) -> usize
     ensures { λ r. ⌜ (r ≡ firstAt x (now (s .entry))) × (r ≤ length (now (s .entry))) ⌝ }
 {
@@ -69,7 +69,7 @@ pub fn first_at(s: &[u8], x: u8) -> usize
     i
 }
 
-// What stands after index p of s: nothing where p is past the end.
+// The bytes of s after index p; none if p is past the end.
 pub fn part_after(s: &[u8], p: usize) -> &[u8]
     ensures { λ r. ⌜ now r ≡ drop (p + 1) (now (s .entry)) ⌝ }
 {
@@ -88,7 +88,7 @@ fn pow10(k: usize) -> u64
     if k == 0 { 1 } else { pow10(k - 1) * 10 }
 }
 
-// a in whole units of d: the one place that says what becomes of digits below a unit.
+// a in whole units of d. Only this function decides what happens to digits below a unit.
 fn whole_units(a: u64, d: u64) -> u64
     requires { ⌜ (a < 2 ^ 62) × (0 < d) × (d < 2 ^ 62) ⌝ }
     ensures { λ r. ⌜ r ≡ wholeUnits a d ⌝ }
@@ -96,7 +96,7 @@ fn whole_units(a: u64, d: u64) -> u64
     a / d
 }
 
-// The digits w before a point and f after it, in units of the k-th decimal.
+// The value of digits w before a point and f after it, in units of the k-th decimal.
 fn scaled_value(w: &[u8], f: &[u8], k: usize) -> u64
     requires { ⌜ (length (now w) + length (now f) ≤ 12) × (k ≤ 6) ⌝ }
     ensures { λ r. ⌜ r ≡ scaledValue k (now (w .entry)) (now (f .entry)) ⌝ }
@@ -108,7 +108,7 @@ fn scaled_value(w: &[u8], f: &[u8], k: usize) -> u64
     whole_units(all * pow10(k), scale)
 }
 
-// The number that s is, in units of the k-th decimal.
+// The number that s spells, in units of the k-th decimal.
 pub fn read_number(s: &[u8], k: usize) -> Number
     requires { ⌜ k ≤ 6 ⌝ }
     ensures { λ r. ⌜ r ≡ readNumber k (now (s .entry)) ⌝ }
@@ -134,7 +134,7 @@ pub fn read_number(s: &[u8], k: usize) -> Number
     }
 }
 
-// The answer to what is no number.
+// The result for a text that is no number.
 pub fn no_number() -> Number
     ensures { λ r. ⌜ r ≡ noNumber ⌝ }
 {
@@ -144,7 +144,7 @@ pub fn no_number() -> Number
     }
 }
 
-// What of v stands before the point, in units of its k-th decimal; 64 bits have no more than 20 digits.
+// The part of v before the point, where v counts units of the k-th decimal. A 64-bit number has at most 20 digits.
 pub fn whole_part(v: u64, k: usize) -> u64
     ensures { λ r. ⌜ r ≡ v / 10 ^ k ⌝ }
 {

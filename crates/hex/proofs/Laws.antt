@@ -1,4 +1,4 @@
--- Laws of hexadecimal digits and of sums: what is read and placed digit by digit, and that a byte placed is read as itself.
+-- Laws of hexadecimal digits and checksums: reading and placing digit by digit, and a placed byte reads back as itself.
 use Prim.Native.Nat.{ℕ, _+_, _-_, _*_, _/_, _%_, _<_, _≤_}
 use mathlib.Core.Path.{_≡_, refl, ap}
 use mathlib.Core.Bool.{Bool, true, false, _&&_, false≢true, and-eq-true-iff}
@@ -13,7 +13,7 @@ use Rattle.base.specs.Choice.{pick}
 use Rattle.figures.specs.Number.{numberIs, noNumber}
 use Rattle.hex.specs.Hex.{isHex, hexOf, readHex, hexDigit, hexPair, total}
 
--- a digit is read as what it stands for
+-- a printed digit reads back as its value
 digit-trip : (n : ℕ) → n < 16 → (isHex (hexDigit n) ≡ true) × (hexOf (hexDigit n) ≡ n)
 unfolding isHex hexOf
 digit-trip n h = byTest (ltb n 10) refl
@@ -39,7 +39,7 @@ hex-trip b h =
     let q = digit-trip (b % 16) (omega arith) in
     rw (p .0, q .0, p .1, q .1) (ap numberIs (omega arith))
 
--- a hexadecimal digit stands for less than 16
+-- the value of a hexadecimal digit is below 16
 hex-of-lt : (b : ℕ) → isHex b ≡ true → hexOf b < 16
 unfolding isHex hexOf
 hex-of-lt b e = byDigit (leb 48 b && leb b 57) refl
@@ -64,7 +64,7 @@ hex-of-lt b e = byDigit (leb 48 b && leb b 57) refl
         rw (h .1) (omega (arith, leb-true b 57 (h .1)))
     byDigit false p = byCapital p (leb 65 b && leb b 70) refl
 
--- so what two of them are is a byte
+-- so the value of two digits is a byte
 pub hex-lt : (t : List ℕ) → readHex t .value < 256
 unfolding readHex
 hex-lt t = byTest (eqb (length t) 2 && (isHex (getD t 0 0) && isHex (getD t 1 0))) refl

@@ -1,4 +1,4 @@
--- Bytes as two hexadecimal digits, and sums of bytes.
+-- Bytes as two hexadecimal digits, and the checksum of bytes.
 use Prim.Native.Nat.{ℕ, _+_, _-_, _*_, _/_, _%_}
 use mathlib.Core.List.{List, [], _∷_}
 use mathlib.Core.Bool.{Bool, _&&_, _||_}
@@ -13,25 +13,25 @@ use Rattle.figures.specs.declared.Number.{Number}
 unfoldable pub isHex : ℕ → Bool
 isHex b = isDigit b || ((leb 65 b && leb b 70) || (leb 97 b && leb b 102))
 
--- what a hexadecimal digit of either case stands for
+-- the value of a hexadecimal digit in either case
 unfoldable pub hexOf : ℕ → ℕ
 hexOf b = pick (leb b 57) (b - 48) (pick (leb b 70) (b - 55) (b - 87))
 
--- two hexadecimal digits, the high one first
+-- the value of two hexadecimal digits, the high one first
 unfoldable pub readHex : List ℕ → Number
 readHex t =
     pick (eqb (length t) 2 && (isHex (getD t 0 0) && isHex (getD t 1 0)))
     (numberIs (hexOf (getD t 0 0) * 16 + hexOf (getD t 1 0)))
     noNumber
 
--- a digit below 16 as a capital, and a byte as two of them
+-- a number below 16 as a capital hexadecimal digit, and a byte as two of them
 abbrev pub hexDigit : ℕ → ℕ
 hexDigit n = pick (ltb n 10) (48 + n) (55 + n)
 
 unfoldable pub hexPair : ℕ → List ℕ
 hexPair b = hexDigit (b / 16) ∷ hexDigit (b % 16) ∷ []
 
--- the sum of the bytes of s, and their checksum, the same modulo 256
+-- the sum of the bytes of s, and their checksum, which is that sum modulo 256
 unfoldable pub total : List ℕ → ℕ
 total [] = 0
 total (b ∷ bs) = b + total bs

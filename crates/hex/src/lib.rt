@@ -6,14 +6,14 @@ ghost use Rattle.base.specs.Put.{Put};
 ghost use Rattle.hex.specs.Hex.{isHex, hexOf, readHex, hexDigit, hexPair, checksum};
 use figures::Number;
 
-// Whether b is a hexadecimal digit of either case.
+// Whether b is a hexadecimal digit in either case.
 fn is_hex(b: u8) -> bool
     ensures { λ r. ⌜ r ≡ isHex b ⌝ }
 {
     (48 <= b) & (b <= 57) | ((65 <= b) & (b <= 70) | (97 <= b) & (b <= 102))
 }
 
-// What a hexadecimal digit of either case stands for.
+// The value of a hexadecimal digit in either case.
 fn hex_of(b: u8) -> u64
     ensures { λ r. ⌜ (r ≡ hexOf b) × (r < 256) ⌝ }
 {
@@ -28,7 +28,7 @@ fn hex_of(b: u8) -> u64
     }
 }
 
-// The byte that two hexadecimal digits of either case are.
+// The byte that two hexadecimal digits in either case spell.
 pub fn read_hex(s: &[u8]) -> Number
     ensures { λ r. ⌜ r ≡ readHex (now (s .entry)) ⌝ }
 {
@@ -57,7 +57,7 @@ pub fn checksum(s: &[u8]) -> u8
     t as u8
 }
 
-// A capital hexadecimal digit.
+// The capital hexadecimal digit for n.
 pub fn hex_digit(n: u8) -> u8
     requires { ⌜ n < 16 ⌝ }
     ensures { λ r. ⌜ r ≡ hexDigit n ⌝ }

@@ -1,4 +1,4 @@
--- What holds of the limits under every model number, by one test computed over the table.
+-- Rules that the limits keep under every model number, by one test computed over the table.
 use Prim.Native.Nat.{ℕ, _*_, _/_, _%_, _^_, _≤_, _<_}
 use native.Mathlib.Omega.{arith}
 use Rattle.base.proofs.Product.{below}
@@ -23,7 +23,7 @@ Round l =
     and eq (20 * (l .volts * 21 / 20)) (21 * l .volts)
     and eq (20 * (l .amps * 21 / 20)) (21 * l .amps)
 
--- there is room for OVP; and what the margins multiply fits 32 bits
+-- the OVP range is not empty; and the products of the margins fit in 32 bits
 abbrev pub Margins : Limits → Check
 Margins l =
     le (l .«ovp_least») (l .«ovp_most»)
@@ -38,7 +38,7 @@ pub rules : (m : ℕ) → Rules (limitsOf m) .fact
 unfolding limitsOf table
 rules m = everywhere Rules table noLimits tt tt m
 
--- the rules that other layers cite, by name
+-- the rules that other layers use, by name
 pub volts-lt : (m : ℕ) → limitsOf m .volts < 2 ^ 24
 volts-lt m = rules m .0 .0
 
@@ -54,7 +54,7 @@ uvl-most-lt m = rules m .0 .1 .1 .1 .1
 pub ovp-room : (m : ℕ) → limitsOf m .«ovp_least» ≤ limitsOf m .«ovp_most»
 ovp-room m = rules m .1 .1 .0
 
--- a reading of any 16-bit count is below 2 ^ 25, so that it prints in 12 characters
+-- a reading of any 16-bit count is below 2 ^ 25, so it prints in 12 characters
 module _ (count rating : ℕ) (c : count < 2 ^ 16) (r : rating < 2 ^ 24) where
   reading-small : count * rating / 50000 < 2 ^ 25
   reading-small = omega (arith, below 16 24 c r)

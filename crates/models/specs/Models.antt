@@ -1,10 +1,10 @@
--- The models, figures in ticks of 0.1 mV and in mA.
+-- The models, with figures in ticks of 0.1 mV and in mA.
 use Prim.Native.Nat.{ℕ, _*_, _/_}
 use mathlib.Core.List.{List, [], _∷_}
 use lib.ListN.{getD}
 use Rattle.models.specs.declared.Limits.{Limits}
 
--- rated volts and amperes, OVP least and most, UVL most
+-- rated volts and amperes, least and greatest OVP, greatest UVL
 abbrev pub limitsAre : ℕ → ℕ → ℕ → ℕ → ℕ → Limits
 limitsAre v a l m u = record { volts = v; amps = a; «ovp_least» = l; «ovp_most» = m; «uvl_most» = u }
 
@@ -24,14 +24,14 @@ table =
     limitsAre 6000000 1300 50000 6600000 5700000 ∷
     []
 
--- a number that is no model has no room for anything
+-- for a number that is no model, every limit is 0
 abbrev pub noLimits : Limits
 noLimits = limitsAre 0 0 0 0 0
 
 unfoldable pub limitsOf : ℕ → Limits
 limitsOf m = getD table m noLimits
 
--- readings: 50,000 counts are the rating; cut down to a whole tick, and to a whole mA
+-- readings: 50,000 counts are the rating; rounded down to a whole tick and to a whole mA
 unfoldable pub voltReading : ℕ → ℕ → ℕ
 voltReading m count = count * limitsOf m .volts / 50000
 

@@ -4,7 +4,7 @@ ghost use mathlib.Core.Path.{_≡_};
 ghost use Prim.Native.Nat.{_*_, _/_};
 ghost use Rattle.models.specs.Models.{limitsOf, voltReading, ampReading};
 
-// What a model allows: volts in ticks of 0.1 mV, amperes in mA.
+// The limits of a model: volts in ticks of 0.1 mV, amperes in mA.
 pub struct Limits {
     pub volts: u32,
     pub amps: u32,
@@ -13,7 +13,7 @@ pub struct Limits {
     pub uvl_most: u32,
 }
 
-// What a sample reads: volts in ticks of 0.1 mV, amperes in mA.
+// The readings of a sample: volts in ticks of 0.1 mV, amperes in mA.
 pub struct Readings {
     pub volts: u64,
     pub amps: u64,
@@ -106,7 +106,7 @@ const MODELS: [Limits; 12] = [
     },
 ];
 
-// A row of the table; of a number that has none, all 0.
+// A row of the table; all 0 for a number that has none.
 fn look_up(model: u8) -> Limits
     ensures { λ r. ⌜ r ≡ limitsOf model ⌝ }
 {
@@ -123,8 +123,8 @@ fn look_up(model: u8) -> Limits
     }
 }
 
-// The limits of a model; of a number that is no model, all 0. A look-up at a number that the compiler knows
-// is worked out beforehand; at any other the whole table is laid out on the stack each time.
+// The limits of a model; all 0 for a number that is no model. The compiler works out a look-up in advance
+// if it knows the number; otherwise it lays out the whole table on the stack each time.
 pub fn limits_of(model: u8) -> Limits
     ensures { λ r. ⌜ r ≡ limitsOf model ⌝ }
 {
@@ -145,7 +145,7 @@ pub fn limits_of(model: u8) -> Limits
     }
 }
 
-// A count's reading, 50,000 counts being the rating; what is below a unit is cut off.
+// The reading of a count, rounded down to a whole unit; 50,000 counts are the rating.
 fn reading(count: u16, rating: u32) -> u64
     ensures { λ r. ⌜ r ≡ count * rating / 50000 ⌝ }
 {
@@ -168,7 +168,7 @@ pub fn amp_reading(model: u8, count: u16) -> u64
     reading(count, l.amps)
 }
 
-// Both readings of a sample of two counts, by one look at the table.
+// Both readings of a sample of two counts, with a single table look-up.
 pub fn readings_of(model: u8, v: u16, a: u16) -> Readings
     ensures { λ r. ⌜ (r .volts ≡ voltReading model v) × (r .amps ≡ ampReading model a) ⌝ }
 {

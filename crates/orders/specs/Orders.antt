@@ -1,4 +1,4 @@
--- What an order does.
+-- What an order does to a supply.
 use Prim.Native.Nat.{ℕ}
 use mathlib.Core.Bool.{Bool, true, false}
 use lib.Dec.{eqb}
@@ -25,21 +25,22 @@ remoteBy Pc s = remote s
 remoteBy Ovp s = s
 remoteBy Uvl s = s
 
--- OUT 1 turns on, OUT 0 turns WANT off and keeps the trips
+-- OUT 1 turns the output on; OUT 0 turns WANT off and keeps the trips
 unfoldable pub outDone : Bool → Supply → Supply
 outDone true s = remote (turnedOn s)
 outDone false s = remote (withWant false s)
 
--- FLD 1 arms, FLD 0 is as the FOLD key that turns ARMED off
+-- FLD 1 arms foldback; FLD 0 does what the FOLD key does when it turns ARMED off
 unfoldable pub fldDone : Bool → Supply → Supply
 fldDone true s = withArmed true s
 fldDone false s = pick (s .armed) (disarmed s) s
 
--- RST: as fitted, in remote control, with LINES, FENA and the counts kept
+-- RST: as fitted, but remote, and with LINES, FENA and the counts kept
 unfoldable pub reset : ℕ → Supply → Supply
-reset m s = withLines (s .lines) (withFena (s .fena) (withCounts (s .«volt_count») (s .«amp_count») (withMode 1 (fresh m))))
+reset m s =
+    withLines (s .lines) (withFena (s .fena) (withCounts (s .«volt_count») (s .«amp_count») (withMode 1 (fresh m))))
 
--- what an accepted order does; CLS acts as the event closes
+-- what an accepted order does; CLS takes effect as the event closes
 unfoldable pub ordered : ℕ → Supply → Order → Supply
 ordered m s (Set t n) = remoteBy t (withSetting t n s)
 ordered m s Ovm = withOvp (limitsOf m .«ovp_most») s
@@ -51,6 +52,6 @@ ordered m s (Fena b) = withFena b s
 ordered m s Cls = s
 ordered m s Rst = reset m s
 
--- an order judged and, where it is accepted, carried out; a refused one changes nothing
+-- an order is checked and, if accepted, carried out; a refused order changes nothing
 unfoldable pub afterOrder : ℕ → Supply → Order → Supply
 afterOrder m s o = pick (eqb (orderCode m s o) 0) (ordered m s o) s

@@ -1,5 +1,5 @@
 // Layer supply.
-// What an order does to a supply: its code, and where it is accepted what it changes.
+// What an order does to a supply: its error code, and its effect if it is accepted.
 ghost use mathlib.Core.Path.{_≡_};
 ghost use lib.Dec.{eqb};
 ghost use Rattle.base.specs.Choice.{pick};
@@ -29,7 +29,7 @@ fn to_remote(s: Supply) -> Supply
     t
 }
 
-// An accepted figure stored; PV and PC take remote control too. One match does both, so that the record is
+// Stores an accepted figure; PV and PC also take remote control. One match does both, so that the record is
 // written once.
 pub fn put_setting(s: Supply, t: Target, x: u32) -> Supply
     ensures { λ r. ⌜ r ≡ remoteBy t (withSetting t x s) ⌝ }
@@ -58,7 +58,7 @@ pub fn put_setting(s: Supply, t: Target, x: u32) -> Supply
     }
 }
 
-// WANT on with the trips cleared, or WANT off with the trips kept.
+// Turns WANT on and releases the trips, or turns WANT off and keeps the trips.
 fn put_out(s: Supply, on: bool) -> Supply
     ensures { λ r. ⌜ r ≡ outDone on s ⌝ }
 {
@@ -127,7 +127,7 @@ fn put_fena(s: Supply, b: u8) -> Supply
     t
 }
 
-// What an accepted order does. Its figure, if it has one, fits 32 bits: the low 32 bits are all of it.
+// What an accepted order does. Its figure, if it has one, fits in 32 bits, so the low 32 bits are all of it.
 fn carried_out(model: u8, s: Supply, o: Order) -> Supply
     requires { ⌜ orderCode model s o ≡ 0 ⌝ }
     ensures { λ r. ⌜ r ≡ ordered model s o ⌝ }
@@ -145,7 +145,7 @@ fn carried_out(model: u8, s: Supply, o: Order) -> Supply
     }
 }
 
-// An order judged and, where it is accepted, carried out: its code, and the supply after it.
+// Checks an order and, if it is accepted, carries it out: its error code, and the supply after it.
 pub fn order_done(model: u8, s: Supply, o: Order) -> Outcome
     ensures { λ r. ⌜ (r .code ≡ orderCode model s o) × (r .supply ≡ afterOrder model s o) ⌝ }
 {

@@ -1,4 +1,4 @@
--- The bounds of a parameter, and a digit against the greatest of a switch.
+-- The bounds of a parameter, and a digit compared with the greatest digit of a switch.
 use Prim.Native.Nat.{ℕ, suc, _+_, _-_, _<_, _≤_}
 use mathlib.Core.Path.{_≡_, refl}
 use mathlib.Core.List.{List}
@@ -14,7 +14,7 @@ use Rattle.figures.specs.Number.{numberIs, noNumber}
 use Rattle.parameters.specs.declared.Parameter.{Parameter}
 use Rattle.parameters.specs.Parameters.{needed, isEmpty, valueIs, refusedBy, c02, c03, switch, readSwitch, readAs, parameterOf}
 
--- a needed parameter's value is below what the number read is below
+-- a required parameter's value keeps every bound of the number read
 pub needed-small : (n : Number) (x : List ℕ) (b : ℕ) → n .value < b → needed n x .value < b
 needed-small n x b h =
     pick-keeps (λ (p : Parameter). p .value < b) (isEmpty x) (refusedBy c02) (pick (n .good) (valueIs (n .value)) (refusedBy c03)) (omega arith)
@@ -26,7 +26,7 @@ above b most h = omega arith
 pub within : (b most : ℕ) → b - 48 ≤ most → b ≤ 48 + most
 within b most h = omega arith
 
--- a switch reads as at most its greatest digit
+-- a switch reads as its greatest digit at most
 digit-most : (most : ℕ) (x : List ℕ) → readSwitch most x .value ≤ most
 digit-most most x = byTest (eqb (length x) 1 && (leb 48 (getD x 0 0) && leb (getD x 0 0) (48 + most))) refl
   where

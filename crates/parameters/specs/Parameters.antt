@@ -12,8 +12,8 @@ use Rattle.hex.specs.Hex.{readHex}
 use Rattle.supply.specs.State.{c05}
 use Rattle.parameters.specs.declared.Parameter.{Parameter}
 
--- the codes of a line that no supply is asked about; a code reads as its name in hexadecimal. C05 is an order's too, and
--- stands with those
+-- the error codes that the line alone decides, without a supply; in hexadecimal an error code reads as its name.
+-- C05, which an order can draw too, is defined with the error codes of orders
 abbrev pub c01 : ℕ
 c01 = 0xC1
 
@@ -32,8 +32,8 @@ valueIs v = record { code = 0; value = v }
 abbrev pub refusedBy : ℕ → Parameter
 refusedBy c = record { code = c; value = 0 }
 
--- what a word takes: nothing; a number with k decimals; one digit from 0 to a greatest; two hexadecimal digits;
--- an address of one or two digits; and the kind of a word that is unknown
+-- what a word takes: no parameter; a number with k decimals; one digit from 0 to a greatest one; two hexadecimal
+-- digits; an address of one or two digits; and the kind of an unknown word
 pub data Kind : Type 0 where
   bare : Kind
   number : ℕ → Kind
@@ -44,13 +44,16 @@ pub data Kind : Type 0 where
 
 -- one digit from 0 to most
 abbrev pub readSwitch : ℕ → List ℕ → Number
-readSwitch most x = pick (eqb (length x) 1 && (leb 48 (getD x 0 0) && leb (getD x 0 0) (48 + most))) (numberIs (getD x 0 0 - 48)) noNumber
+readSwitch most x =
+    pick (eqb (length x) 1 && (leb 48 (getD x 0 0) && leb (getD x 0 0) (48 + most)))
+    (numberIs (getD x 0 0 - 48))
+    noNumber
 
--- one or two digits
+-- at most two digits
 abbrev pub readAddress : List ℕ → Number
 readAddress x = pick (ltb (length x) 3 && allDigits x) (numberIs (runValue x (length x))) noNumber
 
--- what of the text is read by each kind
+-- the text as each kind reads it
 unfoldable pub readAs : Kind → List ℕ → Number
 readAs bare x = noNumber
 readAs (number k) x = readNumber k x
@@ -62,15 +65,15 @@ readAs unknown x = noNumber
 abbrev pub isEmpty : List ℕ → Bool
 isEmpty x = eqb (length x) 0
 
--- a parameter that is needed: C02 where it is empty, C03 where it is malformed
+-- a required parameter: C02 if it is empty, C03 if it is malformed
 abbrev pub needed : Number → List ℕ → Parameter
 needed n x = pick (isEmpty x) (refusedBy c02) (pick (n .good) (valueIs (n .value)) (refusedBy c03))
 
--- an address above 30 is C05
+-- an address above 30 draws C05
 abbrev pub within30 : Parameter → Parameter
 within30 p = pick (ltb 30 (p .value)) (refusedBy c05) p
 
--- a parameter that is given where none belongs is C03, an unknown word C01
+-- a parameter given to a word that takes none draws C03; an unknown word draws C01
 unfoldable pub parameterOf : Kind → List ℕ → Parameter
 parameterOf bare x = pick (isEmpty x) (valueIs 0) (refusedBy c03)
 parameterOf (number k) x = needed (readAs (number k) x) x

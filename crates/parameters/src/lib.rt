@@ -7,7 +7,7 @@ ghost use Rattle.parameters.specs.Parameters.{bare, number, switch, hex,
 use figures::Number;
 use supply::C05;
 
-// A parameter as it was read: code 0 and its value, or the code of what is wrong with it and 0.
+// A parameter as read: error code 0 and its value, or the error code of what is wrong with it and value 0.
 pub struct Parameter {
     pub code: u8,
     pub value: u64,
@@ -17,7 +17,7 @@ const C02: u8 = 0xC2;
 
 const C03: u8 = 0xC3;
 
-// A parameter that is needed: C02 where it is empty, C03 where it is no number.
+// A required parameter: C02 if it is empty, C03 if it is no number.
 fn need(n: Number, x: &[u8]) -> Parameter
     ensures { λ r. ⌜ r ≡ needed n (now (x .entry)) ⌝ }
 {
@@ -61,7 +61,7 @@ fn read_switch(x: &[u8], most: u8) -> Number
     }
 }
 
-// One or two digits.
+// At most two digits.
 fn read_address(x: &[u8]) -> Number
     ensures { λ r. ⌜ r ≡ readAddress (now (x .entry)) ⌝ }
 {
@@ -79,7 +79,7 @@ fn read_address(x: &[u8]) -> Number
     }
 }
 
-// Nothing belongs there.
+// The parameter of a word that takes none.
 pub fn bare_parameter(x: &[u8]) -> Parameter
     ensures { λ r. ⌜ r ≡ parameterOf bare (now (x .entry)) ⌝ }
 {
@@ -93,7 +93,7 @@ pub fn bare_parameter(x: &[u8]) -> Parameter
     }
 }
 
-// A number with k decimals.
+// A required number with k decimals.
 pub fn number_parameter(x: &[u8], k: usize) -> Parameter
     requires { ⌜ k ≤ 6 ⌝ }
     ensures { λ r. ⌜ r ≡ parameterOf (number k) (now (x .entry)) ⌝ }
@@ -101,21 +101,21 @@ pub fn number_parameter(x: &[u8], k: usize) -> Parameter
     need(figures::read_number(x, k), x)
 }
 
-// One digit from 0 to most, needed.
+// A required digit from 0 to most.
 pub fn switch_parameter(x: &[u8], most: u8) -> Parameter
     ensures { λ r. ⌜ (r ≡ parameterOf (switch most) (now (x .entry))) × (r .value < 256) ⌝ }
 {
     need(read_switch(x, most), x)
 }
 
-// Two hexadecimal digits.
+// Two hexadecimal digits, required.
 pub fn hex_parameter(x: &[u8]) -> Parameter
     ensures { λ r. ⌜ (r ≡ parameterOf hex (now (x .entry))) × (r .value < 256) ⌝ }
 {
     need(hex::read_hex(x), x)
 }
 
-// An address: C05 above 30.
+// A required address; above 30 it draws C05.
 pub fn address_parameter(x: &[u8]) -> Parameter
     ensures { λ r. ⌜ (r ≡ parameterOf address (now (x .entry))) × (r .value < 31) ⌝ }
 {

@@ -1,4 +1,4 @@
--- Laws of what is printed: how the code places a figure, and how long it is.
+-- Laws of printing: how the code places a figure, and how long the figure is.
 use Prim.Native.Nat.{ℕ, zero, suc, _+_, _-_, _/_, _%_, _^_, _<_, _≤_}
 use mathlib.Core.Path.{_≡_, refl}
 use mathlib.Core.List.{List, [], _∷_, _++_, append-nil}
@@ -39,7 +39,7 @@ module _ {b : List ℕ} {at : ℕ} where
   put-shortest-more zero v e l f g = absurd (e refl)
   put-shortest-more (suc n) v e l f g = let d : suc n - 1 ≡ n = omega arith in rw (le-ltb v 10 l) (put-then (rw d at f) g)
 
-  -- a figure with no decimals, and with some; w is what the code has before the point
+  -- a figure without decimals, and with some; w is what the code prints before the point
   pub put-figure-whole : (k v w : ℕ) → w ≡ v / 10 ^ k → k ≡ 0 → {p : ℕ} {b′ : List ℕ} → Put b at (shortest 20 w) p b′ → Put b at (figure k v) p b′
   unfolding figure decimals
   put-figure-whole k v w h e f = rw (← h, e, append-nil) f
@@ -49,13 +49,13 @@ module _ {b : List ℕ} {at : ℕ} where
   put-figure-point zero v w h e f g i = absurd (e refl)
   put-figure-point (suc k) v w h e f g i = rw (← h) (put-then f (put-then g i))
 
--- how long what is printed is
+-- the length of a print
 pub length-fixed : (n v : ℕ) → length (fixed n v) ≡ n
 unfolding fixed
 length-fixed zero v = refl
 length-fixed (suc n) v = rw length-append (omega (arith, length-fixed n (v / 10)))
 
--- one digit more than m is enough below 10 ^ (m + 1)
+-- m + 1 digits are enough below 10 ^ (m + 1)
 pub length-shortest : (m n v : ℕ) → v < 10 ^ suc m → length (shortest n v) ≤ suc m
 unfolding shortest
 length-shortest m zero v l = omega arith
@@ -70,7 +70,7 @@ unfolding decimals
 length-decimals zero v = omega arith
 length-decimals (suc k) v = omega (arith, length-fixed (suc k) v)
 
--- m digits before the point, the point, and k after it
+-- m digits before the point, the point, and k digits after it
 pub length-figure : (m k v : ℕ) → 0 < m → v < 10 ^ (m + k) → length (figure k v) ≤ m + 1 + k
 unfolding figure
 length-figure zero k v h l = absurd (omega arith)

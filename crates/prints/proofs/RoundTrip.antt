@@ -1,4 +1,4 @@
--- Reading what was printed gives the same value, for any number of decimals.
+-- A print reads back as the same value, for any number of decimals.
 use Prim.Native.Nat.{ℕ, zero, suc, _+_, _*_, _/_, _%_, _^_, _<_, _≤_}
 use mathlib.Core.Path.{_≡_, refl, sym, ap, _∙_}
 use mathlib.Core.List.{List, [], _∷_, _++_}
@@ -23,7 +23,7 @@ use Rattle.prints.proofs.Print.{length-fixed, figure-short}
 abbrev valueOf : List ℕ → ℕ
 valueOf xs = runValue xs (length xs)
 
--- a run's value is that of its own characters
+-- a run's value depends on its own characters only
 run-front : (xs ys : List ℕ) (n : ℕ) → n ≤ length xs → runValue (xs ++ ys) n ≡ runValue xs n
 unfolding runValue
 run-front xs ys zero h = refl
@@ -40,7 +40,7 @@ unfolding fixed runValue
 value-fixed zero v = omega arith
 value-fixed (suc n) v = rw (value-snoc, value-fixed n (v / 10), pow-suc 10 n, mod-mul v (pow-pos n) (lit< tt)) (omega arith)
 
--- fewer than n digits were enough
+-- a print of fewer than n digits has the value v
 value-shortest : (n v : ℕ) → length (shortest n v) < n → valueOf (shortest n v) ≡ v
 unfolding shortest runValue
 value-shortest zero v h = absurd (omega arith)
@@ -106,7 +106,7 @@ unfolding scaledValue
 scaled-figure k v h =
     rw (value-shortest 20 (v / 10 ^ k) h, value-fixed k v, length-fixed k v, div-add-mod' v (10 ^ k)) (units-exact v (10 ^ k) (pow-pos k))
 
--- the law, where the print has at most 12 characters
+-- the law, for a print of at most 12 characters
 pub read-figure : (k v : ℕ) → length (figure k v) ≤ 12 → readNumber k (figure k v) ≡ numberIs v
 unfolding figure
 read-figure k v h =
@@ -117,6 +117,6 @@ read-figure k v h =
     let p = parted {p = length xs} (sym (first-past xs ys d ∙ rw (first-decimals k v) (add-zero (length xs)))) (sym (take-at xs ys (length xs) refl)) (sym (drop-append-add xs ys 1 ∙ rest-decimals k v)) h in
     sym (good-number p k d (all-fixed k v) (λ e. omega (arith, some-shortest 19 (v / 10 ^ k)))) ∙ ap numberIs (scaled-figure k v (omega arith))
 
--- a 32-bit figure, with at most 9 decimals, is read as itself
+-- a 32-bit figure with at most 9 decimals reads back as itself
 pub read-short : (k v : ℕ) → k < 10 → v < 2 ^ 32 → readNumber k (figure k v) ≡ numberIs v
 read-short k v h l = read-figure k v (figure-short k v h l)

@@ -15,7 +15,7 @@ fn put_fixed(buf: &mut [u8], at: usize, n: usize, v: u64) -> usize
     }
 }
 
-// Places v with no needless leading zero, where n digits are enough for it.
+// Places v without needless leading zeros, if n digits are enough for it.
 fn put_shortest(buf: &mut [u8], at: usize, n: usize, v: u64) -> usize
     ensures { λ r. ⌜ Put (now (buf .entry)) at (shortest n v) r (now (buf .exit)) ⌝ }
 {
@@ -30,7 +30,7 @@ fn put_shortest(buf: &mut [u8], at: usize, n: usize, v: u64) -> usize
     }
 }
 
-// Places v, in units of its k-th decimal.
+// Places v as a figure, where v counts units of the k-th decimal.
 pub fn put_figure(buf: &mut [u8], at: usize, k: usize, v: u64) -> usize
     ensures { λ r. ⌜ Put (now (buf .entry)) at (figure k v) r (now (buf .exit)) ⌝ }
 {

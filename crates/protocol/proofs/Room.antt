@@ -53,7 +53,7 @@ word-short Llo = lit≤ tt
 word-short Cc = lit≤ tt
 word-short Cv = lit≤ tt
 
--- 32-bit figures take 11 characters at most
+-- 32-bit figures take at most 11 characters
 volts-short : (v : ℕ) → v < 2 ^ 32 → length (figure 4 v) ≤ 11
 volts-short v h = length-figure 6 4 v (lit< tt) (lt-of-lt-of-le h (lit≤ tt))
 
@@ -77,7 +77,7 @@ answer-short m s z query.Flt = lit≤ tt
 answer-short m s z query.Fena = lit≤ tt
 answer-short m s z query.Feve = lit≤ tt
 
--- is it a query
+-- whether it is a query
 abbrev isQuery : Asks → Bool
 isQuery (One (Ask q)) = true
 isQuery (One (Lines b)) = false
@@ -92,7 +92,7 @@ isQuery (Everyone o) = false
 isQuery Nobody = false
 isQuery (Error c) = false
 
--- the text that a line draws, by what it asks; a query's is the longest
+-- the text that a line draws, by what it asks; a query draws the longest
 said-short : (m : ℕ) (s : Supply) → Sized s → (a : Asks) (n : ℕ)
     → (isQuery a ≡ true → 3 ≤ n) → 1 ≤ n → length (repliedTo m s a false) ≤ 3 * (n + 1)
 unfolding repliedTo saidOf ending
@@ -109,7 +109,7 @@ said-short m s z (Error c) n h l = rw length-append (omega (arith, code-short c)
 said-short m s z (Everyone o) n h l = omega arith
 said-short m s z Nobody n h l = omega arith
 
--- a checksum is three bytes more
+-- a checksum adds three bytes
 checksummed-longer : (m : ℕ) (s : Supply) (a : Asks) → length (repliedTo m s a true) ≤ length (repliedTo m s a false) + 3
 unfolding repliedTo ending hexPair
 checksummed-longer m s (One a) = rw (length-append, length-append) (omega arith)
@@ -127,7 +127,7 @@ error-reply : (m : ℕ) (s : Supply) → length (repliedTo m s (Error c01) false
 unfolding repliedTo codeText ending
 error-reply m s = refl
 
--- a query's word has three characters or more
+-- a query's word has at least three characters
 abbrev longEnough : ℕ → Command → Bool
 longEnough n (ofOne q) = leb 3 n
 longEnough n (toOne o) = true

@@ -1,4 +1,4 @@
--- A printed setting is read as itself; accepted where it stands.
+-- A printed setting reads back as itself, and the supply that has it accepts it.
 use Prim.Native.Nat.{ℕ, suc, _+_, _-_, _/_, _^_, _<_, _≤_}
 use mathlib.Core.Path.{_≡_, refl, sym, ap, _∙_}
 use mathlib.Core.List.{List, [], _∷_, _++_}
@@ -38,7 +38,7 @@ use Rattle.reply.specs.Obeying.{saidOf}
 use Rattle.protocol.specs.Sent.{repliedTo}
 use Rattle.protocol.specs.SentBack.{queryOf, queryWord, orderWord, SentBack}
 
--- a figure with decimals is not empty, and its third last character is a digit
+-- a figure with decimals is not empty, and its third character from the end is a digit
 figure-length : (k v : ℕ) → length (figure (suc k) v) ≡ length (shortest 20 (v / 10 ^ suc k)) + suc (suc k)
 unfolding figure decimals
 figure-length k v = length-append (shortest 20 (v / 10 ^ suc k)) (46 ∷ fixed (suc k) v) ∙ ap (λ (n : ℕ). length (shortest 20 (v / 10 ^ suc k)) + suc n) (length-fixed (suc k) v)
@@ -78,7 +78,7 @@ no-checksum w xs h n =
 not-empty : (w xs : List ℕ) → isEmpty (w ++ (32 ∷ xs)) ≡ false
 not-empty w xs = ne-eqb (length (w ++ (32 ∷ xs))) 0 (λ e. omega (arith, length-append w (32 ∷ xs)))
 
--- the order of a setting, given its own print
+-- the order for a setting, given its own print
 number-asked : (t : Target) (k v : ℕ) → suc k < 10 → v < 2 ^ 32 → askedWith (toOne (set t)) (parameterOf (number (suc k)) (figure (suc k) v)) ≡ One (Obey (Set t v))
 unfolding parameterOf readAs
 number-asked t k v h l =
@@ -91,7 +91,7 @@ read-back m s Pc l = rw (no-checksum (orderWord Pc) (figure 3 (s .pc)) (omega (a
 read-back m s Ovp l = rw (no-checksum (orderWord Ovp) (figure 4 (s .ovp)) (omega (arith, figure-length 3 (s .ovp))) (third-4 (s .ovp)), not-empty (orderWord Ovp) (figure 4 (s .ovp))) (ap (λ a. heardAs a false) (number-asked Ovp 3 (s .ovp) (lit< tt) l))
 read-back m s Uvl l = rw (no-checksum (orderWord Uvl) (figure 4 (s .uvl)) (omega (arith, figure-length 3 (s .uvl))) (third-4 (s .uvl)), not-empty (orderWord Uvl) (figure 4 (s .uvl))) (ap (λ a. heardAs a false) (number-asked Uvl 3 (s .uvl) (lit< tt) l))
 
--- a setting that is sent back where it stands is accepted, and stays
+-- sending back the present setting is accepted, and the setting stays
 sent-accepted : (m : ℕ) (s : Supply) (t : Target) → Lawful m s → codeOf m s (Obey (Set t (settingOf t s))) ≡ 0
 unfolding codeOf orderCode
 sent-accepted m s t h = admissible-accepted (limitsOf m) s t (settingOf t s) (rw (same-setting s t) h)

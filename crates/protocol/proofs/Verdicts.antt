@@ -1,4 +1,4 @@
--- A line is what the first stage that applies says; so a line that deserves two verdicts gets the earlier.
+-- A line is what the first stage that applies says, so a line that deserves two verdicts gets the earlier one.
 use mathlib.Core.Path.{_≡_, refl, ap}
 use mathlib.Core.List.{List, [], _∷_, _++_}
 use mathlib.Core.Bool.{Bool, true, false, not, _&&_}
@@ -17,7 +17,7 @@ use Rattle.command.specs.Lines.{hasChecksum, rightChecksum, beforeChecksum, hea
 use Rattle.protocol.specs.Verdicts.{Stage, firstOf, commandIn, kindIn, givenIn, isUnknown, isAbsent, isMalformed, isBeyond, drawsChecksum, valueOf, stages}
 
 module _ (k : Command) where
-  -- a parameter that is needed: absent, malformed, or read
+  -- a required parameter: absent, malformed, or read
   need-cases : (v : ℕ) (e g : Bool) → askedWith k (pick e (refusedBy c02) (pick g (valueIs v) (refusedBy c03))) ≡ pick e (failsWith k c02) (pick (not g) (failsWith k c03) (asksWith k v))
   need-cases v true g = refl
   need-cases v false true = refl
@@ -49,7 +49,7 @@ module _ (k : Command) where
   by-kind address x = address-cases (readAs address x .value) (isEmpty x) (readAs address x .good) (ltb 30 (readAs address x .value)) refl
   by-kind unknown x = refl
 
--- the stages after the checksum, of a line without its checksum
+-- the stages after the checksum, for a line without its checksum
 body-stages : (u : List ℕ) → asksOf u ≡ pick (isEmpty u) (One Nothing) (firstOf (ownStages (commandOf (upperAll (wordOf u))) (kindOf (commandOf (upperAll (wordOf u)))) (parameterText u)) (asksWith (commandOf (upperAll (wordOf u))) (valueOf (kindOf (commandOf (upperAll (wordOf u)))) (parameterText u))))
 unfolding asksOf askedBy
 body-stages u = ap (pick (isEmpty u) (One Nothing)) (by-kind (commandOf (upperAll (wordOf u))) (kindOf (commandOf (upperAll (wordOf u)))) (parameterText u))
@@ -67,7 +67,7 @@ verdicts t false = byChecksum (hasChecksum t) (rightChecksum t) refl
     byChecksum true false e = refl
     byChecksum false r e = body-stages t
 
--- A REPLY CARRIES A SUM exactly where the line has a right one and is not spoiled
+-- A REPLY CARRIES A CHECKSUM exactly if the line has a right one and is not spoiled
 pub checksummed-when : (t : List ℕ) (spoiled : Bool) → heardOf t spoiled .checksummed ≡ drawsChecksum t spoiled
 unfolding heardOf
 checksummed-when t true = refl
@@ -80,7 +80,7 @@ checksummed-when t false = byChecksum (hasChecksum t) (rightChecksum t)
     byChecksum true false = refl
     byChecksum false r = refl
 
--- the first stage that applies decides, whatever stands after it
+-- the first stage that applies decides, whatever comes after it
 abbrev pub NoneApplies : List Stage → Type 0
 NoneApplies [] = Unit
 NoneApplies (e ∷ es) = (e .0 ≡ false) × NoneApplies es

@@ -1,4 +1,4 @@
--- The ten bench figures: sequences of lines, samples and knob steps on a fresh supply, and the replies that they draw.
+-- The ten bench figures: sequences of lines, samples and knob steps on a fresh supply, and the replies they draw.
 use Prim.Native.Nat.{ℕ}
 use Prim.Native.String.{String}
 use mathlib.Core.Path.{_≡_}
@@ -19,11 +19,12 @@ pub data Input : Type 0 where
   counts : ℕ → ℕ → Input
   step : Target → ℕ → Input
 
--- the replies of the lines among the inputs, each with its CR
+-- the replies to the lines among the inputs, each with its CR
 abbrev pub repliesOn : ℕ → Supply → List Input → List (List ℕ)
 repliesOn m s [] = []
 repliesOn m s (line t ∷ is) =
-    repliedTo m s (heardOf (codes t) false .asks) (heardOf (codes t) false .checksummed) ∷ repliesOn m (obeyed m s (heardOf (codes t) false .asks)) is
+    repliedTo m s (heardOf (codes t) false .asks) (heardOf (codes t) false .checksummed)
+    ∷ repliesOn m (obeyed m s (heardOf (codes t) false .asks)) is
 repliesOn m s (counts v a ∷ is) = repliesOn m (performed m s (Sample v a)) is
 repliesOn m s (step t raw ∷ is) = repliesOn m (performed m s (Turn t raw)) is
 
@@ -45,9 +46,13 @@ unfoldable pub benchFigures : List BenchFigure
 benchFigures =
     benchFigure 0 (line "PV 6.3" ∷ line "PV 6.3001" ∷ []) ("OK" ∷ "C05" ∷ []) ∷
     benchFigure 6 (line "PV 62.8571" ∷ line "PV 62.8572" ∷ []) ("OK" ∷ "E01" ∷ []) ∷
-    benchFigure 3 (line "PV 10" ∷ line "UVL 9.5001" ∷ line "UVL 9.5" ∷ line "PV 9.9999" ∷ []) ("OK" ∷ "E06" ∷ "OK" ∷ "E02" ∷ []) ∷
+    benchFigure 3
+    (line "PV 10" ∷ line "UVL 9.5001" ∷ line "UVL 9.5" ∷ line "PV 9.9999" ∷ [])
+    ("OK" ∷ "E06" ∷ "OK" ∷ "E02" ∷ []) ∷
     benchFigure 3 (line "PV 10" ∷ line "OVP 10.4999" ∷ line "OVP 10.5" ∷ []) ("OK" ∷ "E04" ∷ "OK" ∷ []) ∷
-    benchFigure 2 (line "PV 12.5" ∷ line "UVL 11.9" ∷ line "PV 13" ∷ line "UVL 11.9" ∷ line "UVL 11.9001" ∷ []) ("OK" ∷ "E06" ∷ "OK" ∷ "OK" ∷ "C05" ∷ []) ∷
+    benchFigure 2
+    (line "PV 12.5" ∷ line "UVL 11.9" ∷ line "PV 13" ∷ line "UVL 11.9" ∷ line "UVL 11.9001" ∷ [])
+    ("OK" ∷ "E06" ∷ "OK" ∷ "OK" ∷ "C05" ∷ []) ∷
     benchFigure 11 (counts 65535 0 ∷ line "MV?" ∷ []) ("786.4200" ∷ []) ∷
     benchFigure 0 (counts 65535 0 ∷ line "MV?" ∷ []) ("7.8642" ∷ []) ∷
     benchFigure 0 (line "PV 5.00009" ∷ line "PV?" ∷ []) ("OK" ∷ "5.0000" ∷ []) ∷

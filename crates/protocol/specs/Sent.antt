@@ -10,7 +10,7 @@ use Rattle.acts.specs.Acts.{performed}
 use Rattle.texts.specs.Texts.{codeText, replyOf}
 use Rattle.reply.specs.Obeying.{saidOf}
 
--- what a line does to a supply that takes it; a global line is the order that it stands for
+-- what a line does to a supply that takes it; a global line does what its order does
 unfoldable pub obeyed : ℕ → Supply → Asks → Supply
 obeyed m s (One a) = performed m s a
 obeyed m s (Everyone o) = performed m s (Obey o)
@@ -19,7 +19,7 @@ obeyed m s (BadSelect c) = s
 obeyed m s Nobody = s
 obeyed m s (Error c) = s
 
--- the reply that a line draws from the supply selected, with its checksum where the line had one; global lines draw none
+-- the reply that a line draws from the selected supply, with a checksum if the line had one; global lines draw none
 unfoldable pub repliedTo : ℕ → Supply → Asks → Bool → List ℕ
 repliedTo m s (One a) checksummed = replyOf checksummed (saidOf m s a)
 repliedTo m s (Error c) checksummed = replyOf checksummed (codeText c)

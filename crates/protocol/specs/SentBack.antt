@@ -1,4 +1,4 @@
--- A setting that was printed, sent back to the order it came from; and the room that a reply takes.
+-- A printed setting that is sent back with its own order; and the room that a reply takes.
 use Prim.Native.Nat.{ℕ, _+_, _*_, _^_, _<_, _≤_}
 use mathlib.Core.Path.{_≡_}
 use mathlib.Core.List.{List, [], _∷_, _++_}
@@ -19,7 +19,7 @@ use Rattle.asks.specs.declared.Asks.the-variants.{One}
 use Rattle.command.specs.Lines.{heardAs, heardOf}
 use Rattle.protocol.specs.Sent.{repliedTo}
 
--- the query of a setting, and the words of its query and its order
+-- the query for a setting, and the words of its query and its order
 abbrev pub queryOf : Target → Query
 queryOf Pv = query.Pv
 queryOf Pc = query.Pc
@@ -38,31 +38,32 @@ orderWord Pc = codes "PC"
 orderWord Ovp = codes "OVP"
 orderWord Uvl = codes "UVL"
 
--- from state to reply bytes to line to value, for every supply whose setting fits its 32 bits
+-- from state to reply bytes to line to value, for every supply whose setting fits in its 32 bits
 pub record SentBack (m : ℕ) (s : Supply) (t : Target) (text : List ℕ) : Type 0 where
   -- the query's line asks the query, and its reply is the text and CR
   pub asked : heardOf (queryWord t) false ≡ heardAs (One (Ask (queryOf t))) false
   pub printed : repliedTo m s (One (Ask (queryOf t))) false ≡ text ++ (13 ∷ [])
-  -- the order with that text, after one space, is the order of the very setting
+  -- the order's word, one space and that text are the order for exactly this setting
   pub read : heardOf (orderWord t ++ (32 ∷ text)) false ≡ heardAs (One (Obey (Set t (settingOf t s)))) false
-  -- and under margins and limits it is accepted and leaves the setting
+  -- and if the supply keeps margins and limits, it accepts the order and keeps the setting
   pub accepted : Lawful m s → codeOf m s (Obey (Set t (settingOf t s))) ≡ 0
   pub leaves : Lawful m s → settingOf t (performed m s (Obey (Set t (settingOf t s)))) ≡ settingOf t s
 
--- a supply whose settings and counts are within their widths, as every supply of the code is
+-- a supply whose settings and counts fit their widths, as every supply in the code does
 pub record Sized (s : Supply) : Type 0 where
   pub setting : (t : Target) → settingOf t s < 2 ^ 32
   pub volt-count : s .«volt_count» < 2 ^ 16
   pub amp-count : s .«amp_count» < 2 ^ 16
 
--- bytes of reply for each character of a line and for its CR; and for any line
+-- the most bytes of reply for each character of a line and for its CR; and the most for any line
 abbrev pub rate : ℕ
 rate = 3
 
 abbrev pub longest : ℕ
 longest = 63
 
--- ROOM: a line that is not spoiled draws at most rate × (n + 1) bytes of reply, and no more than the longest; a spoiled one draws C01 and CR
+-- ROOM: a line that is not spoiled draws at most rate × (n + 1) bytes of reply, and at most `longest`;
+-- a spoiled line draws C01 and CR
 pub record Room (m : ℕ) (s : Supply) (t : List ℕ) : Type 0 where
   pub fair : length (repliedTo m s (heardOf t false .asks) (heardOf t false .checksummed)) ≤ rate * (length t + 1)
   pub short : length (repliedTo m s (heardOf t false .asks) (heardOf t false .checksummed)) ≤ longest

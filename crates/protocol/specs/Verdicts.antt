@@ -1,4 +1,4 @@
--- The verdicts on a line in turn, as a list of stages, of which the first that applies decides.
+-- The verdicts on a line as a list of stages: the first stage that applies decides.
 use Prim.Native.Nat.{ℕ}
 use mathlib.Core.List.{List, [], _∷_}
 use mathlib.Core.Bool.{Bool, true, false, not, _&&_}
@@ -14,16 +14,16 @@ use Rattle.asks.specs.Words.{Command, kindOf, failsWith, commandOf}
 use Rattle.asks.specs.Asked.{wordOf, parameterText}
 use Rattle.command.specs.Lines.{hasChecksum, rightChecksum, beforeChecksum}
 
--- a stage: whether it applies, and what the line then is
+-- a stage: whether it applies, and what the line asks if it does
 abbrev pub Stage : Type 0
 Stage = Bool × Asks
 
--- the first stage that applies, or what is asked where none does
+-- the verdict of the first stage that applies, or what the line asks if none does
 abbrev pub firstOf : List Stage → Asks → Asks
 firstOf [] a = a
 firstOf (e ∷ es) a = pick (e .0) (e .1) (firstOf es a)
 
--- the line without its checksum, its word in capitals, its command with what that takes, and its parameter
+-- the line without its checksum, its word in capitals, its command, what that command takes, and the parameter given
 abbrev pub bodyOf : List ℕ → List ℕ
 bodyOf t = pick (hasChecksum t) (beforeChecksum t) t
 
@@ -47,7 +47,7 @@ isUnknown (switch n) = false
 isUnknown hex = false
 isUnknown address = false
 
--- a parameter is needed and is absent or empty
+-- a parameter is required, and is absent or empty
 abbrev pub isAbsent : Kind → List ℕ → Bool
 isAbsent unknown x = false
 isAbsent bare x = false
@@ -56,7 +56,7 @@ isAbsent (switch n) x = isEmpty x
 isAbsent hex x = isEmpty x
 isAbsent address x = isEmpty x
 
--- it is malformed, or given where none belongs
+-- the parameter is malformed, or given where none belongs
 abbrev pub isMalformed : Kind → List ℕ → Bool
 isMalformed unknown x = false
 isMalformed bare x = not (isEmpty x)
@@ -65,7 +65,7 @@ isMalformed (switch n) x = not (readAs (switch n) x .good)
 isMalformed hex x = not (readAs hex x .good)
 isMalformed address x = not (readAs address x .good)
 
--- it is an address above 30
+-- the parameter is an address above 30
 abbrev pub isBeyond : Kind → List ℕ → Bool
 isBeyond unknown x = false
 isBeyond bare x = false
@@ -74,19 +74,20 @@ isBeyond (switch n) x = false
 isBeyond hex x = false
 isBeyond address x = ltb 30 (readAs address x .value)
 
--- it has a checksum, and that is wrong
+-- the line has a checksum, and it is wrong
 abbrev pub hasWrongChecksum : List ℕ → Bool
 hasWrongChecksum t = hasChecksum t && not (rightChecksum t)
 
--- its reply carries a checksum: the line has one, which is right, and it is not spoiled
+-- the reply carries a checksum: the line has a right one, and it is not spoiled
 abbrev pub drawsChecksum : List ℕ → Bool → Bool
 drawsChecksum t spoiled = not spoiled && (hasChecksum t && rightChecksum t)
 
--- what a word takes where its parameter is good
+-- the value of a good parameter
 abbrev pub valueOf : Kind → List ℕ → ℕ
 valueOf k x = readAs k x .value
 
--- spoiled C01; wrong checksum C04; empty OK; unknown word C01; absent C02; malformed C03; and an address above 30 C05
+-- a spoiled line C01; a wrong checksum C04; an empty line OK; an unknown word C01; an absent parameter C02; a malformed
+-- one C03; and an address above 30 C05
 abbrev pub stages : List ℕ → Bool → List Stage
 stages t spoiled =
     (spoiled, Error c01) ∷

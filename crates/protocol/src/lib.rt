@@ -1,2 +1,2 @@
 // Layer reply.
-// No code: what holds of one line from its characters to its reply, for the plain supply.
+// No code: statements about one line, from its characters to its reply, for the plain supply.

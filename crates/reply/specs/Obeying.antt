@@ -1,4 +1,4 @@
--- A supply and what it is asked: the supply after it, and what it says.
+-- What a supply says in reply to an act.
 use Prim.Native.Nat.{ℕ}
 use mathlib.Core.List.{List}
 use Rattle.supply.specs.declared.Supply.{Supply}
@@ -8,7 +8,7 @@ use Rattle.acts.specs.Acts.{codeOf}
 use Rattle.answers.specs.Answers.{answerOf}
 use Rattle.texts.specs.Texts.{codeText, answerText}
 
--- a query is answered from the supply as it stands before; anything else is OK or its code
+-- a query is answered from the supply as it stands before it; the reply to any other act is OK or an error code
 unfoldable pub saidOf : ℕ → Supply → Act → List ℕ
 saidOf m s (Ask q) = answerText (answerOf m s q)
 saidOf m s (Obey o) = codeText (codeOf m s (Obey o))

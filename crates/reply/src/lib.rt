@@ -1,5 +1,5 @@
 // Layer reply.
-// A supply that obeys and says what came of it, its reply placed into a lent buffer.
+// A supply that performs an act and replies to it; the reply is placed into a lent buffer.
 ghost use mathlib.Core.Path.{_≡_};
 ghost use Rattle.base.specs.Put.{Put};
 ghost use Rattle.acts.specs.Acts.{codeOf, performed};
@@ -17,10 +17,11 @@ pub struct Obeyed {
     pub next: usize,
 }
 
-// Says the code of what was done.
+// Replies to what was done: OK or an error code.
 fn say_code(done: Outcome, checksummed: bool, buf: &mut [u8], at: usize) -> Obeyed
     ensures does { λ r. ⌜ r .supply ≡ done .supply ⌝ }
-    ensures says { λ r. ⌜ Put (now (buf .entry)) at (replyOf checksummed (codeText (done .code))) (r .next) (now (buf .exit)) ⌝ }
+    ensures says { λ r. ⌜ Put (now (buf .entry)) at (replyOf checksummed (codeText (done .code)))
+        (r .next) (now (buf .exit)) ⌝ }
 {
     let next = texts::put_code_reply(buf, at, done.code, checksummed);
     let after = done.supply;
@@ -33,7 +34,8 @@ fn say_code(done: Outcome, checksummed: bool, buf: &mut [u8], at: usize) -> Obey
 // A query is answered from the supply as it stands.
 fn ask(model: u8, s: Supply, q: Query, checksummed: bool, buf: &mut [u8], at: usize) -> Obeyed
     ensures does { λ r. ⌜ r .supply ≡ performed model s (Act.Ask q) ⌝ }
-    ensures says { λ r. ⌜ Put (now (buf .entry)) at (replyOf checksummed (saidOf model s (Act.Ask q))) (r .next) (now (buf .exit)) ⌝ }
+    ensures says { λ r. ⌜ Put (now (buf .entry)) at (replyOf checksummed (saidOf model s (Act.Ask q)))
+        (r .next) (now (buf .exit)) ⌝ }
 {
     let after = acts::asked(model, s, q);
     let next = texts::put_answer_reply(buf, at, answers::answer_to(model, s, q), checksummed);
@@ -43,29 +45,32 @@ fn ask(model: u8, s: Supply, q: Query, checksummed: bool, buf: &mut [u8], at: us
     }
 }
 
-// An order is judged by the supply, and its code said.
+// The supply checks an order and carries it out if it accepts it; the reply is OK or an error code.
 fn order(model: u8, s: Supply, o: Order, checksummed: bool, buf: &mut [u8], at: usize) -> Obeyed
     ensures does { λ r. ⌜ r .supply ≡ performed model s (Act.Obey o) ⌝ }
-    ensures says { λ r. ⌜ Put (now (buf .entry)) at (replyOf checksummed (saidOf model s (Act.Obey o))) (r .next) (now (buf .exit)) ⌝ }
+    ensures says { λ r. ⌜ Put (now (buf .entry)) at (replyOf checksummed (saidOf model s (Act.Obey o)))
+        (r .next) (now (buf .exit)) ⌝ }
 {
     let done = acts::obey_order(model, s, o);
     say_code(done, checksummed, buf, at)
 }
 
-// Any other act is done, and its code said.
+// Any other act is performed; the reply is OK or an error code.
 fn other(model: u8, s: Supply, a: Act, checksummed: bool, buf: &mut [u8], at: usize) -> Obeyed
     ensures does { λ r. ⌜ r .supply ≡ performed model s a ⌝ }
-    ensures says { λ r. ⌜ Put (now (buf .entry)) at (replyOf checksummed (codeText (codeOf model s a))) (r .next) (now (buf .exit)) ⌝ }
+    ensures says { λ r. ⌜ Put (now (buf .entry)) at (replyOf checksummed (codeText (codeOf model s a)))
+        (r .next) (now (buf .exit)) ⌝ }
 {
     let done = acts::perform(model, s, a);
     say_code(done, checksummed, buf, at)
 }
 
-// A supply obeys an act of a line and says what came of it. Queries and orders, which most lines are, go
-// straight to functions of their own: perform would sort them out once more.
+// A supply performs an act of a line and replies. Most lines are queries and orders, and these go straight to
+// functions of their own: perform would sort them out once more.
 pub fn obey(model: u8, s: Supply, a: Act, checksummed: bool, buf: &mut [u8], at: usize) -> Obeyed
     ensures does { λ r. ⌜ r .supply ≡ performed model s a ⌝ }
-    ensures says { λ r. ⌜ Put (now (buf .entry)) at (replyOf checksummed (saidOf model s a)) (r .next) (now (buf .exit)) ⌝ }
+    ensures says { λ r. ⌜ Put (now (buf .entry)) at (replyOf checksummed (saidOf model s a))
+        (r .next) (now (buf .exit)) ⌝ }
 {
     match a {
         Act::Ask(q) => ask(model, s, q, checksummed, buf, at),

@@ -1,10 +1,10 @@
 // Layer supply.
-// What a sample does to a supply: its counts are stored, and it may trip.
+// What a sample does to a supply: its counts are stored, and it may trip the supply.
 ghost use mathlib.Core.Path.{_≡_};
 ghost use Rattle.samples.specs.Samples.{sampled};
 use supply::Supply;
 
-// A sample of two counts. They are read only with the output on, since only then do they trip.
+// A sample of two counts. Their readings matter only while the output is on, since only then can they trip.
 pub fn sampled_at(model: u8, s: Supply, v: u16, a: u16) -> Supply
     ensures { λ r. ⌜ r ≡ sampled model s v a ⌝ }
 {

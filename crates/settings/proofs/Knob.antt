@@ -1,4 +1,5 @@
--- Under any limits: the values that a setting may take are an interval, and the knob gives the one of them nearest to the exact sum.
+-- Under any limits, the values that a setting may take are an interval, and the knob gives the one nearest to the
+-- exact sum.
 use mathlib.Core.Path.{_≡_, refl, sym, _∙_}
 use mathlib.Core.Bool.{Bool, true, false, cond}
 use Prim.Native.Nat.{ℕ, zero, suc, _+_, _-_, _*_, _≤_, _<_}
@@ -14,7 +15,7 @@ use Rattle.supply.specs.declared.Target.the-variants.{Pv, Pc, Ovp, Uvl}
 use Rattle.settings.specs.Settings.{settingOf, withSetting, ceiling, leastOf, mostOf, signedOf, nearestIn, stepped}
 use Rattle.settings.specs.Lawful.{Within, Bounded, Admissible, Nearest}
 
--- a quotient rounded up is at most x just where the product says so
+-- a quotient rounded up is at most x exactly if the dividend is at most x times the divisor
 module _ (q n x : ℕ) (some : 0 < q) where
   le-of-ceiling : ceiling n q ≤ x → n ≤ x * q
   le-of-ceiling h = let r : n + (q - 1) < suc x * q = div-lt-iff-lt-mul some .0 (omega arith) in omega (arith, rw suc-mul at r)
@@ -22,7 +23,7 @@ module _ (q n x : ℕ) (some : 0 < q) where
   pub ceiling-le : n ≤ x * q → ceiling n q ≤ x
   ceiling-le h = let r : n + (q - 1) < suc x * q = rw suc-mul (omega arith) in omega (arith, div-lt-iff-lt-mul {y = suc x} some .1 r)
 
--- a setting put where it stands
+-- setting a setting to its own value changes nothing
 pub same-setting : (s : Supply) (t : Target) → withSetting t (settingOf t s) s ≡ s
 unfolding withSetting settingOf
 same-setting s Pv = refl
@@ -30,7 +31,7 @@ same-setting s Pc = refl
 same-setting s Ovp = refl
 same-setting s Uvl = refl
 
--- the seven facts of four settings, in the order of `Within`
+-- the seven facts about four settings, in the order of `Within`
 pub within :
     (l : Limits) (pv pc ovp uvl : ℕ)
     → 20 * uvl ≤ 19 * pv → 21 * pv ≤ 20 * ovp
@@ -41,7 +42,7 @@ within l pv pc ovp uvl a b c d e f g =
     record { uvl-margin = a; ovp-margin = b; pv-limit = c; pc-limit = d; ovp-least = e; ovp-most = f; uvl-most = g }
 
 module _ (l : Limits) (s : Supply) where
-  -- an admissible value lies between the least and the most
+  -- an admissible value lies between the least and the greatest
   pub in-range : (t : Target) (x : ℕ) → Admissible l s t x → (leastOf l s t ≤ x) × (x ≤ mostOf l s t)
   unfolding withSetting leastOf mostOf
   in-range Pv x h = (ceiling-le 19 (20 * s .uvl) x (lit< tt) (omega (arith, h .uvl-margin)), omega (arith, h .ovp-margin, h .pv-limit))
@@ -49,7 +50,7 @@ module _ (l : Limits) (s : Supply) where
   in-range Ovp x h = (omega (arith, h .ovp-least, ceiling-le 20 (21 * s .pv) x (lit< tt) (omega (arith, h .ovp-margin))), h .ovp-most)
   in-range Uvl x h = (omega arith, omega (arith, h .uvl-most, h .uvl-margin))
 
-  -- and every value between them is admissible, where the supply itself keeps margins and limits
+  -- and every value between them is admissible if the supply itself keeps margins and limits
   pub from-range : (t : Target) (x : ℕ) → Bounded l s → leastOf l s t ≤ x → x ≤ mostOf l s t → Admissible l s t x
   unfolding withSetting leastOf mostOf
   from-range Pv x h lo hi =
@@ -63,11 +64,11 @@ module _ (l : Limits) (s : Supply) where
   from-range Uvl x h lo hi =
       within l (s .pv) (s .pc) (s .ovp) x (omega arith) (h .ovp-margin) (h .pv-limit) (h .pc-limit) (h .ovp-least) (h .ovp-most) (omega arith)
 
-  -- so the interval of a supply that keeps margins and limits is not empty: it holds the setting as it stands
+  -- so the interval of a supply that keeps margins and limits is not empty: it contains the present setting
   pub not-empty : (t : Target) → Bounded l s → leastOf l s t ≤ mostOf l s t
   not-empty t h = let r = in-range t (settingOf t s) (rw (same-setting s t) h) in omega arith
 
--- the interval is the same wherever the setting itself stands: where one value is admissible, all of the interval is
+-- the interval does not depend on the setting itself: if one value is admissible, so is all of the interval
 pub from-other : (l : Limits) (s : Supply) (t : Target) (x y : ℕ) → Admissible l s t x → leastOf l s t ≤ y → y ≤ mostOf l s t → Admissible l s t y
 unfolding withSetting leastOf mostOf
 from-other l s Pv x y a lo hi = from-range l (withSetting Pv x s) Pv y a lo hi
@@ -84,7 +85,7 @@ dist-below v (suc k) = bySign (ltb v (suc k)) refl
     bySign true e = omega (arith, ltb-true v (suc k) e)
     bySign false e = omega (arith, ltb-false v (suc k) e)
 
--- no whole number of an interval is nearer to an integer than the one that `nearestIn` gives, and that one is in it
+-- `nearestIn` gives a whole number of the interval, and none in the interval is nearer to the integer
 module _ (lo hi : ℕ) (some : lo ≤ hi) where
   pub nearest-in : (z : ℤ) → (lo ≤ nearestIn lo hi z) × (nearestIn lo hi z ≤ hi)
   unfolding nearestIn
@@ -114,7 +115,7 @@ module _ (l : Limits) (s : Supply) (t : Target) (raw : ℕ) where
         nearest = λ y a. let r = in-range l s t y a in nearest-is (leastOf l s t) (mostOf l s t) e z y (r .0) (r .1);
       }
 
-  -- on any supply, what it gives is the only value that can be nearest
+  -- on any supply, the knob's value is the only one that can be nearest
   pub nearest-stepped : (n : ℕ) → Nearest l s t raw n → n ≡ stepped l s t raw
   unfolding stepped
   nearest-stepped n h =
@@ -125,6 +126,6 @@ module _ (l : Limits) (s : Supply) (t : Target) (raw : ℕ) where
       let x = nearestIn (leastOf l s t) (mostOf l s t) z in
       nearest-alone (leastOf l s t) (mostOf l s t) e z n (r .0) (r .1) (h .nearest x (from-other l s t n x (h .admissible) (b .0) (b .1)))
 
-  -- so there is one nearest value at most
+  -- so there is at most one nearest value
   pub nearest-one : (n k : ℕ) → Nearest l s t raw n → Nearest l s t raw k → n ≡ k
   nearest-one n k h i = nearest-stepped n h ∙ sym (nearest-stepped k i)

@@ -1,4 +1,4 @@
--- The four settings, where each may stand, and a knob step on one.
+-- The four settings, the range of each, and a knob step on one.
 use Prim.Native.Nat.{ℕ, _+_, _-_, _*_, _/_, min, max}
 use lib.Dec.{ltb}
 use lib.IntN.{ℤ, pos, negsuc, _+ℤ_}
@@ -25,8 +25,8 @@ withSetting Uvl x s = withUvl x s
 abbrev pub ceiling : ℕ → ℕ → ℕ
 ceiling n d = (n + (d - 1)) / d
 
--- where a setting may stand under any five limits, the other settings as they are: from the least to the most value that
--- margins and limits allow
+-- the range of a setting under any five limits, with the other settings as they are: the least and the greatest value
+-- that margins and limits allow
 unfoldable pub leastOf : Limits → Supply → Target → ℕ
 leastOf l s Pv = ceiling (20 * s .uvl) 19
 leastOf l s Pc = 0
@@ -39,11 +39,11 @@ mostOf l s Pc = 21 * l .amps / 20
 mostOf l s Ovp = l .«ovp_most»
 mostOf l s Uvl = min (l .«uvl_most») (19 * s .pv / 20)
 
--- a step as it comes, 32 bits in two's complement, is a signed number
+-- the signed number that a raw step, 32 bits in two's complement, stands for
 unfoldable pub signedOf : ℕ → ℤ
 signedOf raw = pick (ltb raw 0x80000000) (pos raw) (negsuc (0xFFFFFFFF - raw))
 
--- what of an exact sum is not below 0
+-- an exact sum, or 0 if it is negative
 abbrev pub natPart : ℤ → ℕ
 natPart (pos n) = n
 natPart (negsuc n) = 0
@@ -52,6 +52,6 @@ natPart (negsuc n) = 0
 unfoldable pub nearestIn : ℕ → ℕ → ℤ → ℕ
 nearestIn lo hi z = min hi (max lo (natPart z))
 
--- a setting after a knob step: the exact sum, brought into where the setting may stand
+-- a setting after a knob step: the value in the setting's range nearest to the exact sum
 unfoldable pub stepped : Limits → Supply → Target → ℕ → ℕ
 stepped l s t raw = nearestIn (leastOf l s t) (mostOf l s t) (pos (settingOf t s) +ℤ signedOf raw)

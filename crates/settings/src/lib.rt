@@ -1,5 +1,5 @@
 // Layer supply.
-// The four settings, where each may stand, and a knob step on one.
+// The four settings, the range of each, and a knob step on one.
 ghost use mathlib.Core.Path.{_≡_};
 ghost use Prim.Native.Nat.{min, max};
 ghost use lib.IntN.{pos, _+ℤ_};
@@ -55,8 +55,8 @@ fn larger(a: u64, b: u64) -> u64
     if a < b { b } else { a }
 }
 
-// The least value of a setting that keeps margins and limits. A margin is a quotient rounded up: by 19 it takes 18 more,
-// by 20 it takes 19 more.
+// The least value of a setting that keeps margins and limits. A margin is a quotient rounded up: add 18 before
+// dividing by 19, and 19 before dividing by 20.
 fn least_of(model: u8, s: Supply, t: Target) -> u64
     ensures { λ r. ⌜ r ≡ leastOf (limitsOf model) s t ⌝ }
 {
@@ -69,7 +69,7 @@ fn least_of(model: u8, s: Supply, t: Target) -> u64
     }
 }
 
-// The greatest one.
+// The greatest value of a setting that keeps margins and limits.
 fn most_of(model: u8, s: Supply, t: Target) -> u64
     ensures { λ r. ⌜ r ≡ mostOf (limitsOf model) s t ⌝ }
 {
@@ -82,7 +82,7 @@ fn most_of(model: u8, s: Supply, t: Target) -> u64
     }
 }
 
-// x with a step added in exact arithmetic, and 0 where that is below 0.
+// x plus a step in exact arithmetic, or 0 if the sum is negative.
 fn with_step(x: u32, raw: u32) -> u64
     ensures { λ r. ⌜ r ≡ natPart (pos x +ℤ signedOf raw) ⌝ }
 {
@@ -96,7 +96,7 @@ fn with_step(x: u32, raw: u32) -> u64
     }
 }
 
-// A setting after a step; where margins or limits forbid the sum, the allowed value next to it.
+// A setting after a step; if margins or limits forbid the sum, the allowed value nearest to it.
 pub fn stepped_setting(model: u8, s: Supply, t: Target, raw: u32) -> u32
     ensures { λ r. ⌜ r ≡ stepped (limitsOf model) s t raw ⌝ }
 {

@@ -10,12 +10,12 @@ use Rattle.base.proofs.Bits.{bit-or, bit-and}
 use Rattle.supply.specs.declared.Supply.{Supply}
 use Rattle.supply.specs.Flt.{fltOf, onOf, FltBits}
 
--- bit k of FLT, from the four parts that it is made of
+-- bit k of FLT, from its four parts
 flt-bit : (k : ℕ) (s : Supply) → bitAt k (fltOf s) ≡ ((((bitAt k (s .lines) && bitAt k 0xA6) || bitAt k (bit (s .«fold_trip») * 8)) || bitAt k (bit (s .«ovp_trip») * 16)) || bitAt k (bit (not (s .want)) * 64))
 unfolding fltOf
 flt-bit k s = simp (bit-or, bit-and)
 
--- the or of the four parts at bit k: what LINES shows through its mask, and a flag at 8, 16 and 64
+-- the or of the four parts at bit k: LINES through its mask, and a flag at 8, 16 and 64
 abbrev joined : ℕ → Bool → Bool → Bool → Bool → Bool
 joined k line f o off = (((line && bitAt k 0xA6) || bitAt k (bit f * 8)) || bitAt k (bit o * 16)) || bitAt k (bit off * 64)
 
@@ -64,7 +64,7 @@ flt-bits s =
     at : (k : ℕ) → Joined (bitAt k (s .lines)) (s .«fold_trip») (s .«ovp_trip») (not (s .want))
     at k = each-bit (bitAt k (s .lines)) (s .«fold_trip») (s .«ovp_trip») (not (s .want))
 
--- a bit of FLT that is set means that the output is off
+-- if any bit of FLT is set, the output is off
 bit-off : (k : ℕ) (s : Supply) → bitAt k 0 ≡ false → bitAt k (fltOf s) ≡ true → onOf s ≡ false
 unfolding onOf
 bit-off k s z e = byTest (eqb (fltOf s) 0) refl
@@ -73,7 +73,7 @@ bit-off k s z e = byTest (eqb (fltOf s) 0) refl
     byTest true q = absurd (false≢true (sym z ∙ sym (ap (bitAt k) (eqb-true (fltOf s) 0 q)) ∙ e))
     byTest false q = refl
 
--- a trip that is set means that the output is off
+-- if a trip is set, the output is off
 pub fold-shut : (s : Supply) → s .«fold_trip» ≡ true → onOf s ≡ false
 unfolding bitAt
 fold-shut s e = bit-off 3 s refl (flt-bits s .fold ∙ e)
@@ -82,7 +82,7 @@ pub ovp-shut : (s : Supply) → s .«ovp_trip» ≡ true → onOf s ≡ false
 unfolding bitAt
 ovp-shut s e = bit-off 4 s refl (flt-bits s .ovp ∙ e)
 
--- and so does WANT off
+-- and so it is if WANT is off
 pub want-off-shut : (s : Supply) → s .want ≡ false → onOf s ≡ false
 unfolding bitAt
 want-off-shut s e = bit-off 6 s refl (flt-bits s .want-off ∙ ap not e)

@@ -1,4 +1,4 @@
--- FEVE bit by bit: what an event adds to it, and that an event that leaves FLT as it was adds nothing.
+-- FEVE bit by bit: what an event adds to it; an event that leaves FLT as it was adds nothing.
 use mathlib.Core.Path.{_≡_, refl, ap, _∙_}
 use mathlib.Core.Bool.{Bool, true, false, not, _&&_, _||_}
 use Prim.Native.Nat.{ℕ, zero, suc, _+_, _-_, _*_, _/_, _%_, _^_, _<_}
@@ -17,14 +17,14 @@ flag-lt : (b : Bool) (k : ℕ) → k < 256 → bit b * k < 256
 flag-lt true k h = omega arith
 flag-lt false k h = omega arith
 
--- FLT is a byte, whatever LINES holds
+-- FLT is a byte, whatever LINES is
 pub flt-lt : (s : Supply) → fltOf s < 256
 unfolding fltOf
 flt-lt s =
     or-lt 8 _ _ (or-lt 8 _ _ (or-lt 8 _ _ (lt-of-le-of-lt (and-le-r (s .lines) 0xA6) (lit< tt)) (flag-lt (s .«fold_trip») 8 (lit< tt))) (flag-lt (s .«ovp_trip») 16 (lit< tt)))
     (flag-lt (not (s .want)) 64 (lit< tt))
 
--- one of two bits is the other's opposite where they sum to 1
+-- one of two bits is the opposite of the other if they add up to 1
 opposite : (a b : ℕ) → a + b ≡ 1 → eqb b 1 ≡ not (eqb a 1)
 opposite zero zero e = absurd (omega arith)
 opposite zero (suc zero) e = refl
@@ -67,7 +67,7 @@ feve-bit before after k h =
     bit-or k (after .feve) (gain before after)
     ∙ ap (λ (x : Bool). bitAt k (after .feve) || x) (gain-bit before after k h)
 
--- a bit that is not set
+-- a bit that is not set is 0
 even : (x : ℕ) → eqb (x % 2) 1 ≡ false → x % 2 ≡ 0
 even x e = let n = eqb-false (x % 2) 1 e in byRest (x % 2) n (omega arith)
   where
@@ -76,7 +76,7 @@ even x e = let n = eqb-false (x % 2) 1 e in byRest (x % 2) n (omega arith)
     byRest (suc zero) n l = absurd (n refl)
     byRest (suc (suc r)) n l = absurd (omega arith)
 
--- a byte with no bit set is 0: each bit, from the highest on, halves what it can be
+-- a byte with no bit set is 0: each bit, from the highest down, halves its range
 no-bit : (x : ℕ) → x < 256 → ((k : ℕ) → k < 8 → bitAt k x ≡ false) → x ≡ 0
 unfolding bitAt
 no-bit x l off =
@@ -89,7 +89,7 @@ no-bit x l off =
     let below2 : x < 2 = omega (arith, even (x / 2) (off 1 (lit< tt))) in
     omega (arith, even (x / 1) (off 0 (lit< tt)))
 
--- an event in which no enabled bit rises gains nothing
+-- FEVE gains nothing from an event in which no enabled bit rises
 pub settled-none : (before after : Supply) → ((k : ℕ) → k < 8 → rises before after k ≡ false)
     → settled before after ≡ after
 unfolding settled
@@ -101,7 +101,7 @@ settled-none before after none =
     let zero : gain before after ≡ 0 = no-bit (gain before after) small (λ k h. gain-bit before after k h ∙ none k h) in
     rw (zero, or-zero-r (after .feve)) refl
 
--- nor does one that leaves FLT as it was
+-- nor from an event that leaves FLT as it was
 pub settled-idle : (before after : Supply) → fltOf after ≡ fltOf before → settled before after ≡ after
 settled-idle before after e =
     settled-none before after (λ k h. rw e (unmoved (bitAt k (fltOf before)) (bitAt k (before .fena))))

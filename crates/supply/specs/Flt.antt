@@ -1,4 +1,4 @@
--- FLT and what is read off it: nothing else looks at LINES and the trips for the output, or compares the current.
+-- FLT and what follows from it. Nothing else derives the output from LINES and the trips, or compares the current.
 use Prim.Native.Nat.{ℕ}
 use mathlib.Core.Path.{_≡_}
 use mathlib.Core.Bool.{Bool, false, not, _&&_, _||_}
@@ -10,19 +10,19 @@ use Rattle.models.specs.Models.{ampReading}
 use Rattle.supply.specs.declared.Supply.{Supply}
 use Rattle.supply.specs.With.{withFeve}
 
--- FLT: LINES through the mask 0xA6 (AC 1, OTP 2, SO 5, ENA 7), the FOLD trip at bit 3, the OVP trip at 4, and at 6 that
--- WANT is off
+-- FLT: LINES masked with 0xA6 (AC 1, OTP 2, SO 5, ENA 7), the FOLD trip at bit 3, the OVP trip at bit 4,
+-- and WANT off at bit 6
 unfoldable pub fltOf : Supply → ℕ
 fltOf s =
     bitOr
     (bitOr (bitOr (bitAnd (s .lines) 0xA6) (shift 3 (bit (s .«fold_trip»)))) (shift 4 (bit (s .«ovp_trip»))))
     (shift 6 (bit (not (s .want))))
 
--- no fault bit: the output is on
+-- the output is on: no fault bit is set
 unfoldable pub onOf : Supply → Bool
 onOf s = eqb (fltOf s) 0
 
--- LINES is 0, so that the output may be turned on
+-- LINES is 0, so the output may be turned on
 unfoldable pub linesClear : Supply → Bool
 linesClear s = eqb (s .lines) 0
 
@@ -30,7 +30,7 @@ linesClear s = eqb (s .lines) 0
 unfoldable pub inLimit : ℕ → Supply → Bool
 inLimit m s = leb (s .pc) (ampReading m (s .«amp_count»))
 
--- the second stage of an act: a fault bit that was 0 and now is 1 goes into FEVE where FENA, as it was, enables it
+-- the second stage of an act: a fault bit that was 0 and is now 1 goes into FEVE if FENA enabled it before
 unfoldable pub settled : Supply → Supply → Supply
 settled before after =
     withFeve (bitOr (after .feve) (bitAnd (bitAnd (fltOf after) (complement (fltOf before))) (before .fena))) after
@@ -46,7 +46,7 @@ pub record FltBits (s : Supply) : Type 0 where
   pub want-off : bitAt 6 (fltOf s) ≡ not (s .want)
   pub ena : bitAt 7 (fltOf s) ≡ bitAt 7 (s .lines)
 
--- FEVE BIT BY BIT: bit k after an event is set where it was, or where the fault bit rose and was enabled before
+-- FEVE BIT BY BIT: bit k is set if the first stage left it set, or if fault bit k rose and FENA enabled it before
 abbrev pub FeveBit : Supply → Supply → ℕ → Type 0
 FeveBit before after k =
     bitAt k (settled before after .feve)

@@ -1,10 +1,10 @@
--- The plain supply when it is fresh, and the codes by which it refuses an order.
+-- The plain supply as fitted, and the error codes with which it refuses an order.
 use Prim.Native.Nat.{ℕ}
 use mathlib.Core.Bool.{false}
 use Rattle.models.specs.Models.{limitsOf}
 use Rattle.supply.specs.declared.Supply.{Supply}
 
--- as fitted: OVP at its most, everything else 0 or off
+-- as fitted: OVP at its greatest, everything else 0 or off
 unfoldable pub fresh : ℕ → Supply
 fresh m =
     record {
@@ -25,7 +25,7 @@ fresh m =
       «amp_count» = 0;
     }
 
--- a code is a byte whose two hexadecimal digits are the letter and the number of its name; 0 is an accepted order
+-- an error code is a byte: its hexadecimal digits are the letter and the last digit of its name; 0 means accepted
 abbrev pub c05 : ℕ
 c05 = 0xC5
 

@@ -1,4 +1,4 @@
--- One setter for each part of a supply's state: all else stays.
+-- One setter for each part of a supply's state; everything else stays unchanged.
 use Prim.Native.Nat.{ℕ}
 use mathlib.Core.Bool.{Bool}
 use Rattle.supply.specs.declared.Supply.{Supply}

@@ -1,11 +1,11 @@
 // Layer supply.
-// The plain supply: its state, whatever it can be asked, and FLT. The model goes beside the state.
+// The plain supply: its state, everything that can happen to it, and FLT. The model is passed alongside the state.
 ghost use mathlib.Core.Path.{_≡_};
 ghost use lib.Dec.{leb};
 ghost use Rattle.supply.specs.State.{fresh};
 ghost use Rattle.supply.specs.Flt.{fltOf, onOf, linesClear, inLimit, settled};
 
-// The whole state of a supply. Figures in ticks of 0.1 mV and in mA; mode is 0 local, 1 remote, 2 locked out.
+// The whole state of a supply. Figures are in ticks of 0.1 mV and in mA; mode is 0 local, 1 remote, 2 locked out.
 #[repr(C)]
 pub struct Supply {
     pub pv: u32,
@@ -25,7 +25,7 @@ pub struct Supply {
     pub amp_count: u16,
 }
 
-// C05: a figure beyond its limits, or an address above 30. It is the one code that both an order and a line can draw.
+// C05: a figure beyond its limits, or an address above 30. Only this code can be drawn by an order and by a line.
 pub const C05: u8 = 0xC5;
 
 pub enum Target {
@@ -70,7 +70,7 @@ pub enum Query {
     Feve,
 }
 
-// Whatever a supply can be asked: a new LINES byte, a sample of two counts, a key, a knob step
+// Everything that can happen to a supply: a new LINES byte, a sample of two counts, a key, a knob step
 // (32 bits in two's complement), an order, a query, or nothing (the empty line).
 pub enum Act {
     Lines(u8),
@@ -82,7 +82,7 @@ pub enum Act {
     Nothing,
 }
 
-// A code, 0 where the act was accepted, and the supply after it.
+// The error code, 0 if the act was accepted, and the supply after the act.
 pub struct Outcome {
     pub code: u8,
     pub supply: Supply,
@@ -98,7 +98,7 @@ pub enum Word {
     Cv,
 }
 
-// An answer by meaning: a figure with its number of decimals, a word, or a byte.
+// The answer to a query, by meaning: a figure with its number of decimals, a word, or a byte.
 pub enum QueryAnswer {
     Figure(u8, u64),
     Says(Word),
@@ -115,35 +115,35 @@ pub fn flt(s: Supply) -> u8
         | ((!s.want as u8) << 6)
 }
 
-// The output is on.
+// Whether the output is on.
 pub fn is_on(s: Supply) -> bool
     ensures { λ r. ⌜ r ≡ onOf s ⌝ }
 {
     flt(s) == 0
 }
 
-// LINES is 0, so that the output may be turned on.
+// Whether LINES is 0, so that the output may be turned on.
 pub fn lines_clear(s: Supply) -> bool
     ensures { λ r. ⌜ r ≡ linesClear s ⌝ }
 {
     s.lines == 0
 }
 
-// An ampere reading is at least PC.
+// Whether an ampere reading is at least PC.
 pub fn reaches_pc(s: Supply, amps: u64) -> bool
     ensures { λ r. ⌜ r ≡ leb (s .pc) amps ⌝ }
 {
     (s.pc as u64) <= amps
 }
 
-// The ampere reading of the stored counts is at least PC.
+// Whether the ampere reading of the stored counts is at least PC.
 pub fn in_limit(model: u8, s: Supply) -> bool
     ensures { λ r. ⌜ r ≡ inLimit model s ⌝ }
 {
     reaches_pc(s, models::amp_reading(model, s.amp_count))
 }
 
-// FEVE gains each FLT bit that rose and was enabled before.
+// FEVE gains each FLT bit that rose and that FENA enabled before.
 pub fn settle(before: Supply, after: Supply) -> Supply
     ensures { λ r. ⌜ r ≡ settled before after ⌝ }
 {
@@ -154,7 +154,7 @@ pub fn settle(before: Supply, after: Supply) -> Supply
     t
 }
 
-// A supply as it is fitted.
+// A supply as fitted.
 pub fn fresh_supply(model: u8) -> Supply
     ensures { λ r. ⌜ r ≡ fresh model ⌝ }
 {

@@ -1,4 +1,4 @@
--- What the code places, part by part, is the whole reply.
+-- The parts that the code places are together the whole reply.
 use Prim.Native.Nat.{ℕ, _+_, _-_, _/_, _%_, _<_}
 use mathlib.Core.Path.{_≡_, refl}
 use mathlib.Core.List.{List, [], _∷_}
@@ -37,7 +37,7 @@ module _ {b : List ℕ} {at : ℕ} (t : Bool) (xs : List ℕ) where
   unfolding ending
   put-checksummed-end e x ex f g h = rw (e, ← ex) (put-then f (put-then g h))
 
--- a text and its ending are the reply: with room the checksum is of the whole text, and without room there is no ending to place
+-- a text and its ending are the reply: with room, the checksum covers the whole text; without room, no ending is placed
 pub put-reply :
     {b : List ℕ} {at : ℕ} (t : Bool) (xs : List ℕ) {p : ℕ} {b₁ : List ℕ} {q : ℕ} {b₂ : List ℕ}
     → Put b at xs p b₁ → Put b₁ p (ending t (take (p - at) (drop at b₁))) q b₂ → Put b at (replyOf t xs) q b₂

@@ -1,4 +1,4 @@
--- The text of a reply: OK, a code or an answer, its checksum where the line had one, and CR.
+-- The text of a reply: OK, an error code or an answer, then a checksum if the line had one, and CR.
 use Prim.Native.Nat.{ℕ, _/_, _%_}
 use mathlib.Core.List.{List, [], _∷_, _++_}
 use mathlib.Core.Bool.{Bool, true, false}
@@ -12,7 +12,7 @@ use Rattle.supply.specs.declared.Word.the-variants.{On, Off, Loc, Rem, Llo, Cc,
 use Rattle.supply.specs.declared.QueryAnswer.{QueryAnswer}
 use Rattle.supply.specs.declared.QueryAnswer.the-variants.{Figure, Says, Hex}
 
--- code 0 is OK; any other reads as its two digits with a 0 between them, so that 0xC5 is C05
+-- error code 0 reads OK; any other reads as its two digits with a 0 between them, so 0xC5 is C05
 unfoldable pub codeText : ℕ → List ℕ
 codeText c = pick (eqb c 0) (codes "OK") (hexDigit (c / 16) ∷ 48 ∷ hexDigit (c % 16) ∷ [])
 
@@ -30,7 +30,7 @@ answerText (Figure k v) = figure k v
 answerText (Says w) = wordText w
 answerText (Hex b) = hexPair b
 
--- what ends the reply xs: $ (36) and its checksum where the line had a right one, then CR (13)
+-- what ends the reply xs: $ (36) and its checksum if the line had a right one, then CR (13)
 unfoldable pub ending : Bool → List ℕ → List ℕ
 ending true xs = 36 ∷ (hexPair (checksum xs) ++ (13 ∷ []))
 ending false xs = 13 ∷ []

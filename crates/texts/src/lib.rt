@@ -1,5 +1,5 @@
 // Layer reply.
-// The text of a reply: OK, a code or an answer, its checksum where asked for, and CR, placed into a lent buffer.
+// The text of a reply: OK, an error code or an answer, a checksum if asked for, and CR, placed into a lent buffer.
 ghost use Prim.Native.Nat.{_-_, _≤_};
 ghost use lib.ListN.{take, drop};
 ghost use Rattle.base.specs.Put.{Put};
@@ -7,7 +7,7 @@ ghost use Rattle.texts.specs.Texts.{codeText, wordText, answerText, endi
 use supply::QueryAnswer;
 use supply::Word;
 
-// Places OK or a code.
+// Places OK or an error code.
 fn put_code(buf: &mut [u8], at: usize, code: u8) -> usize
     ensures { λ r. ⌜ Put (now (buf .entry)) at (codeText code) r (now (buf .exit)) ⌝ }
 {
@@ -44,10 +44,11 @@ fn put_answer(buf: &mut [u8], at: usize, a: QueryAnswer) -> usize
     }
 }
 
-// Ends a reply that stands from one index to another: a checksum, where asked for, and CR.
+// Ends the reply that stands between two indices: a checksum, if asked for, and CR.
 fn put_end(buf: &mut [u8], from: usize, at: usize, checksummed: bool) -> usize
     requires { ⌜ from ≤ at ⌝ }
-    ensures { λ r. ⌜ Put (now (buf .entry)) at (ending checksummed (take (at - from) (drop from (now (buf .entry))))) r (now (buf .exit)) ⌝ }
+    ensures { λ r. ⌜ Put (now (buf .entry)) at
+        (ending checksummed (take (at - from) (drop from (now (buf .entry))))) r (now (buf .exit)) ⌝ }
 {
     if buf.len() <= at {
         return at;
@@ -62,7 +63,7 @@ fn put_end(buf: &mut [u8], from: usize, at: usize, checksummed: bool) -> usize
     }
 }
 
-// Places a whole reply that is OK or a code.
+// Places a whole reply that is OK or an error code.
 pub fn put_code_reply(buf: &mut [u8], at: usize, code: u8, checksummed: bool) -> usize
     ensures { λ r. ⌜ Put (now (buf .entry)) at (replyOf checksummed (codeText code)) r (now (buf .exit)) ⌝ }
 {

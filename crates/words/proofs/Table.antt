@@ -1,4 +1,4 @@
--- A table of words gives the same by characters and by numbers, whatever stands beside the words.
+-- A table of words gives the same result by characters and by numbers, whatever values stand beside the words.
 use Prim.Native.Nat.{ℕ, zero, suc, _+_, _-_, _*_, _^_, _<_, _≤_}
 use mathlib.Core.Path.{_≡_, refl, sym, ap, _∙_}
 use mathlib.Core.List.{List, [], _∷_, map}
@@ -56,7 +56,7 @@ same-eq (x ∷ s) (y ∷ t) e =
     let r : s ≡ t = same-eq s t (p .1) in
     cc
 
--- two words have the same number where they have the same characters
+-- two words have the same number if and only if they have the same characters
 key-same : (s t : List ℕ) → Bytes s → Bytes t → eqb (pack s) (pack t) ≡ sameWord s t
 key-same s t hs ht = byTest (sameWord s t) refl
   where
@@ -85,7 +85,7 @@ up-bytes s h i = rw (up-at s i) (upper-lt (getD s i 0) (h i))
 pub pack-lt : (s : List ℕ) → Bytes s → (n : ℕ) → n ≤ 4 → packed (upperAll s) n < 2 ^ 33
 pack-lt s h n l = lt-of-lt-of-le (packed-lt (upperAll s) (up-bytes s h) n) (mul-le-mul-left 2 (pow-le-pow-right {n = 256} (lit< tt) l))
 
--- what the default of a `match` on x knows, given the keys in order
+-- what the default arm of a `match` on x knows, given the keys in order
 abbrev pub NoneOf : List ℕ → ℕ → Type 0 → Type 0
 NoneOf [] x P = P
 NoneOf (k ∷ ks) x P = NoneOf ks x (P × (x ≡ k → ⊥))
@@ -99,7 +99,7 @@ module _ {A : Type 0} (none : A) where
   abbrev pub keysOf : List (Row A) → List ℕ
   keysOf t = map (λ (e : Row A). pack (e .0)) t
 
-  -- a number that is none of them finds nothing
+  -- a number that is none of them finds no row
   pub find-none : (t : List (Row A)) (x : ℕ) (P : Type 0) → NoneOf (keysOf t) x P → findNumber none t x ≡ none
   unfolding findNumber
   find-none [] x P h = refl
@@ -107,7 +107,7 @@ module _ {A : Type 0} (none : A) where
       rw (ne-eqb (pack (e .0)) x (λ q. none-front (keysOf t) x (P × (x ≡ pack (e .0) → ⊥)) h .1 (sym q)))
       (find-none t x (P × (x ≡ pack (e .0) → ⊥)) h)
 
-  -- every word of a table is of bytes, at most five: a test that computes
+  -- every word of a table has at most five characters, all of them bytes: a test that computes
   abbrev pub fitTable : List (Row A) → Bool
   fitTable [] = true
   fitTable (e ∷ es) = areBytes (e .0) && (leb (length (e .0)) 5 && fitTable es)
@@ -120,7 +120,7 @@ module _ {A : Type 0} (none : A) where
       let q = and-eq-true-iff (leb (length (e .0)) 5) (fitTable t) .0 (p .1) in
       rw (key-same (e .0) w (bytes-of (e .0) (p .0)) h, find-same t (q .1) w h) refl
 
-  -- a longer word is not there
+  -- a longer word is not in the table
   find-long : (t : List (Row A)) → fitTable t ≡ true → (w : List ℕ) → 5 < length w → findWord none t w ≡ none
   unfolding findWord
   find-long [] f w h = refl
@@ -133,12 +133,12 @@ module _ {A : Type 0} (none : A) where
       byTest true s l r = absurd (omega (arith, ap length (same-eq (e .0) w s)))
       byTest false s l r = r
 
-  -- a test of a word's length and what stands beside it passes every row: it computes
+  -- every row passes a test of its word's length and its value: this computes
   abbrev pub everyRow : (ℕ → A → Bool) → List (Row A) → Bool
   everyRow f [] = true
   everyRow f (e ∷ es) = f (length (e .0)) (e .1) && everyRow f es
 
-  -- then it passes any word with what it finds, where it passes the default
+  -- then any word passes it with the value it finds, if it passes with the default
   pub find-passes :
       (f : ℕ → A → Bool) (t : List (Row A)) → everyRow f t ≡ true
       → (w : List ℕ) → f (length w) none ≡ true → f (length w) (findWord none t w) ≡ true
@@ -159,7 +159,7 @@ module _ {A : Type 0} (none : A) where
   wordsWhere f [] = []
   wordsWhere f (e ∷ es) = pick (f (e .1)) (e .0 ∷ wordsWhere f es) (wordsWhere f es)
 
-  -- no word stands twice in the table: a test that computes
+  -- no word occurs twice in the table: a test that computes
   abbrev pub wordsOnce : List (Row A) → Bool
   wordsOnce [] = true
   wordsOnce (e ∷ es) = not (isOneOf (map (λ (r : Row A). r .0) es) (e .0)) && wordsOnce es
@@ -176,7 +176,7 @@ module _ {A : Type 0} (none : A) where
       byTest true s r = rw (s, r) refl
       byTest false s r = r
 
-  -- what a word finds passes a test that the default fails where it is one of the words of the rows that pass it
+  -- if the default fails a test, a word's value passes it exactly when the word is in a row that passes
   pub find-where :
       (f : A → Bool) → f none ≡ false
       → (t : List (Row A)) → wordsOnce t ≡ true → (w : List ℕ) → f (findWord none t w) ≡ isOneOf (wordsWhere f t) w

@@ -1,11 +1,11 @@
 // Layer ground.
-// Words of letters of either case, held as numbers: a 1 and then a byte for each character in capitals.
+// Words in either case, held as numbers: a leading 1, then one byte for each character, in capitals.
 ghost use mathlib.Core.Path.{_≡_};
 ghost use Prim.Native.Nat.{_≤_};
 ghost use lib.ListN.{length};
 ghost use Rattle.words.specs.Words.{upper, packed, upperAll, wordNumber};
 
-// A letter as a capital.
+// A character, as a capital if it is a small letter.
 pub fn upper_byte(b: u8) -> u8
     ensures { λ r. ⌜ r ≡ upper b ⌝ }
 {
@@ -32,7 +32,7 @@ fn pack_word(s: &[u8], n: usize) -> u64
     word
 }
 
-// A word's number; of a word with more than five characters, which no table has, 0.
+// A word's number; 0 for a word of more than five characters, which no table has.
 pub fn word_number(s: &[u8]) -> u64
     ensures { λ r. ⌜ r ≡ wordNumber (now (s .entry)) ⌝ }
 {

@@ -1,4 +1,4 @@
--- `end_lines` meets its contract: after i steps the first i bytes are as they are printed.
+-- `end_lines` meets its contract: after i iterations the first i bytes are as they are printed.
 use borrow.Author.Needs.{needs}
 use native.Mathlib.Omega.{arith}
 use mathlib.Core.Path.{_≡_, refl, _∙_}

@@ -1,4 +1,4 @@
--- `keep_rest` meets its contract: after i steps i bytes are moved, each to a place that is not above its own.
+-- `keep_rest` meets its contract: after i iterations i bytes have been moved, none of them to a higher index.
 use borrow.Author.Needs.{needs}
 use native.Mathlib.Omega.{arith}
 use mathlib.Core.Path.{_≡_, refl, _∙_}

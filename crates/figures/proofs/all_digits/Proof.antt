@@ -1,4 +1,4 @@
--- `figures::all_digits` meets its contract. The loop's invariant: all are digits where all that is left are.
+-- `figures::all_digits` meets its contract. The loop's invariant: all are digits exactly if all from index i on are.
 use borrow.Author.Needs.{needs}
 use native.Mathlib.Omega.{arith}
 use Prim.Native.Nat.{_-_, _≤_}

@@ -1,4 +1,4 @@
--- `figures::first_at` meets its contract. The loop's invariant: the first x lies as far behind i as it lies in what is left.
+-- `figures::first_at` meets its contract. The loop's invariant: the index of the first x is i plus its index from i on.
 use borrow.Author.Needs.{needs}
 use native.Mathlib.Omega.{arith}
 use Prim.Native.Nat.{_-_, _+_, _≤_}

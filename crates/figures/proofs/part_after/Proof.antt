@@ -1,4 +1,4 @@
--- `figures::part_after` meets its contract: past the end there is nothing from p on, and nothing from the next index on.
+-- `figures::part_after` meets its contract: past the end there are no bytes from p on, nor from the next index on.
 use borrow.Author.Needs.{needs}
 use native.Mathlib.Omega.{arith}
 use mathlib.Core.Path.{sym, _∙_}

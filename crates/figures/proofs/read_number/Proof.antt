@@ -1,4 +1,4 @@
--- `figures::read_number` meets its contract: each answer is the one that the text's parts ask for.
+-- `figures::read_number` meets its contract: each result is the one that the text's parts call for.
 use borrow.Author.Needs.{needs}
 use borrow.Author.Tests.{not-true, not-false}
 use mathlib.Core.Path.{_≡_, sym, ap, _∙_}
@@ -9,7 +9,7 @@ use Rattle.figures.proofs.Laws.{Parted, parted, parts-short, read-long,
 use Rattle.figures.proofs.read_number.Statement.{statement}
 use Rattle.figures.proofs.read_number.Tie as tie
 
--- the parts, and what is known of them further on
+-- the parts, and what later steps know about them
 cut : (q : tie.After-part-after) → Parted (q .before .before .before .before .before .args .s .now) (q .before .part-to .result .now) (q .part-after .result .now)
 cut q = parted (q .before .before .first-at .ensures .0) (q .before .part-to .ensures) (q .part-after .ensures) (q .before .before .before .if1 .left)
 

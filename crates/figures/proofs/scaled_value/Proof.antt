@@ -1,4 +1,4 @@
--- `figures::scaled_value` meets its contract: nothing wraps, since 12 digits and 6 zeros more stay below 2 ^ 62.
+-- `figures::scaled_value` meets its contract: nothing wraps, since 12 digits and 6 more zeros stay below 2 ^ 62.
 use borrow.Author.Needs.{needs}
 use native.Mathlib.Omega.{arith}
 use native.Mathlib.Nat.{lt-of-lt-of-le, lt-trans}
@@ -11,7 +11,7 @@ use Rattle.figures.proofs.Laws.{side, side-lt, scale-lt, pow-pos, pow-l
 use Rattle.figures.proofs.scaled_value.Statement.{statement}
 use Rattle.figures.proofs.scaled_value.Tie as tie
 
--- all the digits as one run; and, at the code's names, the same with k zeros more
+-- all the digits as one number; and, with the code's names, the same with k more zeros
 all-lt : (c : tie.Start) → side (c .args .w .now) (c .args .f .now) < 10 ^ 12
 all-lt c =
     let a = c .args in

@@ -1,4 +1,4 @@
--- `figures::whole_part` meets its contract: 20 decimals and more leave nothing of 64 bits before the point.
+-- `figures::whole_part` meets its contract: with 20 or more decimals, a 64-bit number has nothing before the point.
 use borrow.Author.Needs.{needs}
 use native.Mathlib.Nat.{div-eq-of-lt}
 use native.Mathlib.Omega.{arith}

@@ -1,4 +1,5 @@
--- `hex::checksum` meets its contract. The loop's invariant: what was summed and what is left have the same sum as all, modulo 256.
+-- `hex::checksum` meets its contract. The loop's invariant: the sum so far plus the sum of the rest is the whole sum,
+-- modulo 256.
 use borrow.Author.Needs.{needs}
 use native.Mathlib.Omega.{arith}
 use Prim.Native.Nat.{_-_, _+_, _≤_, _<_, _%_}

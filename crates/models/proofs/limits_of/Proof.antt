@@ -1,4 +1,4 @@
--- `models::limits_of` meets its contract: each arm looks up the number that it stands for.
+-- `models::limits_of` meets its contract: each arm looks up its own number.
 use borrow.Author.Needs.{needs}
 use Rattle.models.proofs.limits_of.Statement.{statement}
 use Rattle.models.proofs.limits_of.Tie as tie

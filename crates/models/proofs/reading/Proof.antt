@@ -1,4 +1,4 @@
--- `models::reading` meets its contract: 16 bits times 32 bits fit 64.
+-- `models::reading` meets its contract: 16 bits times 32 bits fit in 64.
 use borrow.Author.Needs.{needs}
 use native.Mathlib.Nat.{lt-of-lt-of-le}
 use lib.Dec.{lit≤}

@@ -25,7 +25,7 @@ returns c =
     let on = sym (known .before .before .is-on .ensures) ∙ known .before .if1 .taken in
     when-over _ _ _ _ on (rw (known .readings-of .ensures .0) at (c .if2 .taken))
 
--- the current, over-voltage apart
+-- the current limit, without over-voltage
 returns-2 : tie.Need-returns-2
 unfolding inLimit
 returns-2 c =

@@ -1,4 +1,4 @@
--- `pack_word` meets its contract. The loop's invariant: the number so far is that of the first i characters.
+-- `pack_word` meets its contract. The loop's invariant: the number so far is the one of the first i characters.
 use borrow.Author.Needs.{needs}
 use native.Mathlib.Omega.{arith}
 use Prim.Native.Nat.{_-_, _≤_}
