@@ -1,4 +1,4 @@
--- WHAT A CALL DOES: the whole answer, the rack and every byte of the reply buffer, for any rack, bytes and buffer.
+-- WHAT A CALL DOES: all that it returns, the rack and every byte of the reply buffer, for any rack, bytes and buffer.
 use Prim.Native.Nat.{ℕ}
 use mathlib.Core.Path.{_≡_}
 use mathlib.Core.List.{List, _++_}
@@ -16,7 +16,8 @@ use Rattle.slots.specs.View.{viewOf, Able}
 abbrev pub refusal : Rack → ℕ → Answer
 refusal r n = record { code = n; rack = r; used = 0; length = 0 }
 
--- an accepted field: code 0, the rack q, the bytes used, and the reply t at the start of the buffer with the rest untouched
+-- an accepted field: code 0, the rack q, the bytes used, and the reply t at the start of the buffer with the rest
+-- untouched
 pub record Accepted (q : wire.Rack Supply) (used : ℕ) (t b : List ℕ) (a : Answer) (b′ : List ℕ) : Type 0 where
   pub code-is : a .code ≡ 0
   pub used-is : a .used ≡ used
@@ -25,8 +26,8 @@ pub record Accepted (q : wire.Rack Supply) (used : ℕ) (t b : List ℕ) (a : An
   pub length-is : a .length ≡ length t
   pub buffer-is : b′ ≡ t ++ drop (length t) b
 
--- a refusal holds of any rack; what an accepted field does is said of a rack whose line has 64 characters at most, as every rack has
--- that a fitting list and calls lead to
+-- A refusal is described for any rack; what an accepted field does, for a rack whose line has at most 64 characters, as
+-- in every rack reached by a fitting list and calls.
 abbrev pub Answered : Rack → List ℕ → wire.CallResult Supply → Answer → List ℕ → Type 0
 Answered r b (wire.refused n) a b′ = (a ≡ refusal r n) × (b′ ≡ b)
 Answered r b (wire.done q used t) a b′ = Able r → Accepted q used t b a b′

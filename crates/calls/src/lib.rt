@@ -1,12 +1,13 @@
 // Layer calls.
-// One call on a rack: the first field of the lent bytes, done or refused, and its replies.
+// One call on a rack: works or refuses the first field of the lent bytes, and writes its replies.
 ghost use Rattle.calls.specs.Calls.{CallDoes};
 use slots::Rack;
 
 // The byte that ends each line of a reply.
 const CR: u8 = 13;
 
-// What a call answers: code 0, the rack after the field, the bytes used and the length of the reply; or the number of a refusal and the same rack.
+// What a call returns: code 0, the rack after the field, the bytes used and the length of the reply; or the number of a
+// refusal and the same rack.
 pub struct Answer {
     pub code: u8,
     pub rack: Rack,
@@ -14,7 +15,7 @@ pub struct Answer {
     pub length: usize,
 }
 
-// One call: the first field of the lent bytes, its replies at the start of the buffer.
+// One call: works the first field of the lent bytes and writes its replies to the start of the buffer.
 pub fn call(r: Rack, bytes: &[u8], reply: &mut [u8]) -> Answer
     ensures { λ a. ⌜ CallDoes r (now (bytes .entry)) (now (reply .entry)) a (now (reply .exit)) ⌝ }
 {

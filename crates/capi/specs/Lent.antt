@@ -1,8 +1,8 @@
--- A CALL ON A LENT RACK: the answer of `call`, its rack in the caller's memory and the rest returned.
+-- A CALL ON A LENT RACK: the answer of `call`, with its rack in the caller's memory and the rest returned.
 use Rattle.slots.specs.declared.Rack.{Rack}
 use Rattle.calls.specs.declared.Answer.{Answer}
 use Rattle.capi.specs.declared.Done.{Done}
 
--- the answer that what was returned makes with the rack as the call left it
+-- the answer of `call`: what was returned, together with the rack as the call left it
 abbrev pub answerOf : Done → Rack → Answer
 answerOf d r = record { code = d .code; rack = r; used = d .used; length = d .length }

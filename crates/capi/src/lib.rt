@@ -1,12 +1,14 @@
 // Layer outside.
-// `fit` and `call` for programs in C or Rust: what is exported, and nothing else. The rack stays in its owner's memory.
+// `fit` and `call` for programs in C or Rust: the exported functions, and nothing else. The rack stays in its owner's
+// memory.
 ghost use Rattle.rack.specs.Fit.{FitDoes};
 ghost use Rattle.calls.specs.Calls.{CallDoes};
 ghost use Rattle.capi.specs.Lent.{answerOf};
 use rack::Fitted;
 use slots::Rack;
 
-// What a call tells beside the rack: code 0, the bytes used and the reply's length; or a refusal's number, 0 and 0.
+// What a call returns besides the rack: code 0, the bytes used and the length of the reply; or the number of a refusal,
+// 0 and 0.
 #[repr(C)]
 pub struct Done {
     pub code: u8,
@@ -22,8 +24,9 @@ pub extern "C" fn pu_fit(list: &[u8]) -> Fitted
     rack::fit(list)
 }
 
-// One call: the first field of the lent bytes on the lent rack. The contract is that of `call`, so a list of these calls
-// on a rack of `pu_fit` is a `Run` of rack/specs/Demand3.antt, and what is said there of racks holds of the lent one.
+// One call: works the first field of the lent bytes on the lent rack. The contract is that of `call`, so a list of
+// these calls on a rack from `pu_fit` is a `Run` of rack/specs/Demand3.antt, and what is stated there about racks holds
+// for the lent one.
 #[no_mangle]
 pub extern "C" fn pu_call(rack: &mut Rack, bytes: &[u8], reply: &mut [u8]) -> Done
     ensures { λ d. ⌜ CallDoes (now (rack .entry)) (now (bytes .entry)) (now (reply .entry))

@@ -1,4 +1,4 @@
--- A refusal that bytes to come may mend: too few of them for a header (2), or for the payload (5).
+-- A refusal that further bytes may mend: there were too few for a header (2), or for the payload (5).
 use Prim.Native.Nat.{ℕ}
 use mathlib.Core.Bool.{Bool, _||_}
 use lib.Dec.{eqb}

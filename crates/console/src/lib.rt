@@ -1,6 +1,6 @@
 // Layer outside.
-// What the programs read from standard input and write to standard output, whatever read and write return: a call that a signal
-// interrupts, or that would have to wait, is made again; one that fails for good is a fault, which is reported on standard error.
+// How the programs read standard input and write standard output, whatever read and write return. A call that a signal
+// interrupts, or that would block, is repeated; one that fails for good is a fault and is reported on standard error.
 ghost use mathlib.Core.Path.{_≡_};
 ghost use mathlib.Core.Bool.{true};
 ghost use mathlib.Core.List.{[], _∷_, _++_};
@@ -21,28 +21,28 @@ use libc::types::timespec;
 // More calls than any run makes.
 const CALLS: u64 = u64::MAX;
 
-// What was read: how many bytes are there now, and whether a read failed for good. Where no byte came and no read failed, the input is at
-// its end.
+// The outcome of reading: how many bytes there are now, and whether a read failed for good. If no byte came and no read
+// failed, the input is at its end.
 pub struct Got {
     pub count: usize,
     pub failed: bool,
 }
 
-// A buffer for what is read, or for replies.
+// A buffer for input or for replies.
 pub fn buffer() -> [u8; 8192]
     ensures { λ r. ⌜ 8192 ≡ length r ⌝ }
 {
     [0; 8192]
 }
 
-// A refusal that the bytes to come may mend: the field is cut off, and may be waiting for them.
+// Whether further bytes may mend a refusal: the field is incomplete, and the rest may still come.
 pub fn waits(code: u8) -> bool
     ensures { λ r. ⌜ r ≡ mendable code ⌝ }
 {
     (code == 2) | (code == 5)
 }
 
-// Waits a millisecond, or less where a signal comes.
+// Waits for a millisecond, or less if a signal comes.
 fn nap() {
     let asked = timespec {
         tv_sec: 0,
@@ -55,7 +55,7 @@ fn nap() {
     libc::nanosleep(&asked, &mut left);
 }
 
-// Whether to make a call again that failed; where it would have blocked, waits first.
+// Whether to repeat a call that failed; if it would have blocked, waits first.
 fn again() -> bool {
     let error = os::errno();
     if error == libc::EAGAIN {
@@ -65,7 +65,8 @@ fn again() -> bool {
     error == libc::EINTR
 }
 
-// Whether a read that brought nothing is to be made again: a serial line may be set to answer so while it is idle.
+// Whether to repeat a read that brought nothing: a serial line may be set up so that a read returns nothing while it is
+// idle.
 fn idle() -> bool {
     if libc::isatty(STDIN_FILENO) != 1 {
         return false;
@@ -74,7 +75,8 @@ fn idle() -> bool {
     true
 }
 
-// Whether standard input was a line that is hung up: it brings nothing any more, which is no end of the input but a fault.
+// Whether standard input was a line that has hung up: it will bring nothing more, which is a fault and not the end of
+// the input.
 fn hung_up() -> bool {
     if libc::isatty(STDIN_FILENO) == 1 {
         return false;
@@ -82,12 +84,12 @@ fn hung_up() -> bool {
     os::errno() == libc::EIO
 }
 
-// Whether to read again after a read that brought no bytes, or that failed.
+// Whether to read again after a read that brought no bytes or failed.
 fn again_after(got: isize) -> bool {
     if got == 0 { idle() } else { again() }
 }
 
-// What the last read came to.
+// The outcome of the last read.
 fn got_by(got: isize, buf: &[u8]) -> Got
     ensures { λ g. ⌜ (g .count ≡ clamped got (length (now (buf .entry)))) × (ltZ got (pos 0) ≡ true → g .failed ≡ true) ⌝ }
     ensures { λ g. ⌜ (g .count ≤ length (now (buf .entry))) × (g .failed ≡ true → g .count ≡ 0) ⌝ }
@@ -118,7 +120,7 @@ fn read_on(buf: &mut [u8]) -> Got
     got_by(got, buf)
 }
 
-// The same, with the first read by itself, as nearly every one brings bytes.
+// The same, with the first read outside the loop, since nearly every read brings bytes.
 fn read_some(buf: &mut [u8]) -> Got
     ensures { λ g. ⌜ (g .count ≤ length (now (buf .exit))) × (g .failed ≡ true → g .count ≡ 0) ⌝ }
 {
@@ -129,7 +131,7 @@ fn read_some(buf: &mut [u8]) -> Got
     got_by(got, buf)
 }
 
-// Writes the bytes, in as many calls as it takes; false where one fails for good, or where there were too many.
+// Writes the bytes, in as many calls as it takes; returns false if one fails for good, or if the calls run out.
 fn write_all(fd: i32, bytes: &[u8]) -> bool {
     let mut done = 0;
     let mut calls = CALLS;
@@ -149,7 +151,7 @@ fn write_all(fd: i32, bytes: &[u8]) -> bool {
     done == bytes.len()
 }
 
-// The line that reports a fault: the stream, and errno by its number.
+// The line that reports a fault: the stream, and errno as a number.
 fn put_fault(line: &mut [u8], stream: &[u8], error: u64) -> usize
     ensures { λ n. ⌜ Put (now (line .entry)) 0 (now (stream .entry) ++ codes ": error " ++ figure 0 error ++ 10 ∷ []) n (now (line .exit)) ⌝ }
 {
@@ -159,7 +161,8 @@ fn put_fault(line: &mut [u8], stream: &[u8], error: u64) -> usize
     base::put_byte(line, c, 10)
 }
 
-// Reports that the last call failed for good. No errno is as large as the line is long, so that `count` gives its number.
+// Reports that the last call failed for good. Every errno is smaller than the line is long, so `count` gives its
+// number.
 fn say_fault(stream: &[u8]) {
     let mut line = [0u8; 256];
     let error = io::count(os::errno() as isize, &line);
@@ -175,7 +178,7 @@ fn say_fault_out() {
     say_fault(b"standard output");
 }
 
-// Reads behind the bytes that are kept; their number stays where no byte comes.
+// Reads after the kept bytes; if no byte comes, the count stays as it was.
 pub fn take_block(room: &mut [u8], kept: usize) -> Got
     requires { ⌜ kept < length (now room) ⌝ }
     ensures { λ g. ⌜ (take kept (now (room .exit)) ≡ take kept (now (room .entry))) × (kept ≤ g .count) × (g .count ≤ length (now (room .exit))) ⌝ }
@@ -210,8 +213,7 @@ pub fn read_full(buf: &mut [u8]) -> Got
     Got { count, failed }
 }
 
-// Writes the bytes, all of them or up to a fault, which is reported, and then returns false. No contract can say which bytes a write
-// takes.
+// Writes all the bytes, or reports a fault and returns false. No contract can say which bytes a write takes.
 pub fn write_out(bytes: &[u8]) -> bool {
     if bytes.len() == 0 {
         return true;
@@ -223,7 +225,7 @@ pub fn write_out(bytes: &[u8]) -> bool {
     sent
 }
 
-// The line that tells a refusal.
+// The line that reports a refusal.
 fn refusal_line(code: u8) -> [u8; 10]
     ensures { λ r. ⌜ (code < 10 → r ≡ codes "refused " ++ (48 + code) ∷ 10 ∷ []) ⌝ }
 {

@@ -1,23 +1,25 @@
 // Layer outside.
-// The program: standard input brings a fitting list and then fields; what they draw goes to standard output, its lines ended
-// by LF. A field is answered as soon as its last byte is there. A refusal is printed and ends the program.
+// The program: reads a fitting list and then fields from standard input, and writes their replies to standard output
+// with LF at the end of each line. It replies to a field as soon as the field's last byte is there. It prints a refusal
+// and ends.
 ghost use mathlib.Core.Path.{_≡_};
 ghost use lib.ListN.{length};
 ghost use Rattle.slots.specs.View.{Able};
 ghost use Rattle.controller.specs.Cycle.{CycleDoes};
 use slots::Rack;
 
-// The bytes of a fitting list.
+// The length of a fitting list.
 const LIST: usize = 31;
 
-// Replies wait for each other up to this index of their buffer of 8,192 bytes; behind it there is room for those of any field.
+// Replies are collected up to this index of their buffer of 8,192 bytes; after it there is still room for the replies
+// of any field.
 const FULL: usize = 7_680;
 
 // The byte that ends each line written.
 const LF: u8 = 10;
 
-// A cycle: the rack after it, the bytes that its fields had, how many bytes are to be written, the number of the refusal that ended it, or
-// 0 where the buffer was full, and whether to read on, as bytes to come may mend the refusal.
+// The outcome of a cycle: the rack after it, the bytes used, how many bytes are to be written, the number of the
+// refusal that ended it (0 if the buffer was full), and whether to read on because further bytes may mend the refusal.
 struct CycleOutcome {
     rack: Rack,
     used: usize,
@@ -26,7 +28,7 @@ struct CycleOutcome {
     reads_on: bool,
 }
 
-// Works the bytes that are there, up to a refusal or a full buffer. What is to be written stands at the start of the buffer.
+// Works the bytes read, up to a refusal or a full buffer. What is to be written stands at the start of the buffer.
 fn cycle(r: Rack, s: &[u8], out: &mut [u8]) -> CycleOutcome
     requires { ⌜ Able r × (length (now out) ≡ 8192) ⌝ }
     ensures { λ t. ⌜ CycleDoes r (now (s .entry)) (now (out .entry)) t (now (out .exit)) ⌝ }
@@ -43,8 +45,8 @@ fn cycle(r: Rack, s: &[u8], out: &mut [u8]) -> CycleOutcome
     }
 }
 
-// Works the input cycle by cycle, and writes what each draws, to the input's end, the first refusal or a fault; tells the number of the
-// refusal, or 0.
+// Works the input cycle by cycle and writes the replies of each, until the input ends, a field is refused or a fault
+// occurs; returns the number of the refusal, or 0.
 fn take_input(r: Rack, room: &mut [u8], out: &mut [u8]) -> u8
     requires { ⌜ Able r × (length (now out) ≡ 8192) × (length (now room) ≡ 8192) ⌝ }
 {

@@ -1,13 +1,13 @@
 // Layer checks.
-// Talks to a supply line by line, and holds each reply against the one that is expected. Standard
-// input has the lines and the replies; a second model of the serial line, which shares nothing with
-// this one, writes them (tests/src/bin/dialogue.rs). An item stands on each line of the input:
+// Talks to a supply line by line, and compares each reply with the expected one. Standard input has the lines and the
+// replies; a second model of the serial line, which shares nothing with this one, writes them
+// (tests/src/bin/dialogue.rs). Each line of the input is one item:
 //   model N   a fresh supply of this model
 //   > TEXT    a line at its CR
 //   ! TEXT    a line at its CR that is spoiled
-//   < TEXT    the reply to the line before, without its CR; nothing after < where none comes
-// In the TEXT of a line, \xHH is the byte with these hexadecimal digits. Prints how many replies
-// were expected and how many items went wrong, and before that where the first wrong ones stand.
+//   < TEXT    the reply to the line before, without its CR; nothing after < if none comes
+// In the TEXT of a line, \xHH is the byte with these hexadecimal digits. Prints where the first wrong items are, then
+// how many replies were expected and how many items were wrong.
 ghost use Prim.Native.Nat.{_<_, _≤_};
 ghost use lib.ListN.{length};
 use asks::Asks;
@@ -17,26 +17,26 @@ use reply::Obeyed;
 use supply::Act;
 use supply::Supply;
 
-// More bytes than the input has; of a longer one the rest is not read, and the count shows it.
+// More bytes than the input has. The rest of a longer input would not be read, and the count would show it.
 const INPUT: usize = 262_144;
 
-// The characters that a line holds.
+// How many characters a line holds.
 const LINE: usize = 64;
 
-// Room for the bytes of a line that is too long, so that it shows.
+// Room for the bytes of a line, more than it may hold, so that a line that is too long is noticed.
 const LINE_ROOM: usize = 80;
 
 // Room for one reply.
 const REPLY_ROOM: usize = 64;
 
-// There are models below this number.
+// Models are numbered below this.
 const MODELS: u64 = 12;
 
-// So many wrong items are named.
+// How many wrong items are named.
 const NAMED: u64 = 10;
 
-// How far the talk has come: the supply with its model, the length of the reply to the last line
-// and whether it is still to be compared, and the items, replies and wrong ones so far.
+// How far the talk has come: the supply with its model, the length of the reply to the last line and whether it is
+// still to be compared, and how many items, replies and wrong items there were so far.
 struct Talk {
     model: u8,
     supply: Supply,
@@ -47,7 +47,7 @@ struct Talk {
     wrong: u64,
 }
 
-// One byte of a text, and the index after what it is written as.
+// One byte of a text, and the index after its notation.
 struct Character {
     byte: u8,
     next: usize,
@@ -57,7 +57,7 @@ fn one_more(n: u64) -> u64 {
     if n < u64::MAX { n + 1 } else { n }
 }
 
-// Counts an item as wrong, and names where it stands, unless enough of them are named.
+// Counts an item as wrong and names its line, unless enough of them are named.
 fn wrong_item(t: Talk) -> Talk {
     if t.wrong < NAMED {
         io::write_all(STDOUT_FILENO, b"wrong: line ");
@@ -69,7 +69,7 @@ fn wrong_item(t: Talk) -> Talk {
     r
 }
 
-// A reply that still waits to be compared is missing from the input, and the item is wrong.
+// If a reply still waits to be compared, the input lacks it, and the item is wrong.
 fn nothing_waits(t: Talk) -> Talk {
     if t.waits { wrong_item(t) } else { t }
 }
@@ -99,7 +99,7 @@ fn character_at(s: &[u8], i: usize) -> Character
     }
 }
 
-// Places the bytes that a text stands for, and tells the index after them.
+// Writes the bytes that a text stands for, and returns the index after them.
 fn put_bytes(buf: &mut [u8], text: &[u8]) -> usize {
     let mut at = 0;
     let mut i = 0;
@@ -111,7 +111,7 @@ fn put_bytes(buf: &mut [u8], text: &[u8]) -> usize {
     at
 }
 
-// To a supply a global is one order more, which it does not answer.
+// To a supply, a global is just another order, to which it does not reply.
 fn obey_silently(model: u8, s: Supply, a: Act) -> Obeyed {
     let done = acts::perform(model, s, a);
     let after = done.supply;
@@ -121,13 +121,13 @@ fn obey_silently(model: u8, s: Supply, a: Act) -> Obeyed {
     }
 }
 
-// OK, or a code, from a supply that does nothing.
+// OK or an error code, from a supply that does nothing.
 fn reply_code(s: Supply, code: u8, checksummed: bool, buf: &mut [u8]) -> Obeyed {
     let next = texts::put_code_reply(buf, 0, code, checksummed);
     Obeyed { supply: s, next }
 }
 
-// What comes of a line at its CR. An ADR is answered here, and changes nothing.
+// The outcome of a line at its CR. The reply to an ADR comes from here; an ADR changes nothing.
 fn hear_line(model: u8, s: Supply, line: &[u8], spoiled: bool, buf: &mut [u8]) -> Obeyed {
     let heard = command::read_line(line, spoiled);
     let checksummed = heard.checksummed;
@@ -142,7 +142,7 @@ fn hear_line(model: u8, s: Supply, line: &[u8], spoiled: bool, buf: &mut [u8]) -
     }
 }
 
-// Whether the first bytes of a buffer are a text and CR; of no text, whether they are none.
+// Whether the first bytes of a buffer are a text and CR; if the text is empty, whether there is no reply.
 fn is_reply(buf: &[u8], length: usize, text: &[u8]) -> bool {
     let n = text.len();
     if n == 0 {
@@ -196,7 +196,7 @@ fn take_reply(said: &[u8; REPLY_ROOM], t: Talk, text: &[u8]) -> Talk {
     }
 }
 
-// An item is a word, and what follows the first space.
+// An item is a word, followed by the text after the first space.
 fn take_item(said: &mut [u8; REPLY_ROOM], t: Talk, item: &[u8]) -> Talk {
     let p = figures::first_at(item, b' ');
     let word = base::part_to(item, p);

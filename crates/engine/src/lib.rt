@@ -1,5 +1,5 @@
 // Layer calls.
-// Field after field of lent bytes, worked piece by piece, the slots changed where they stand.
+// Works lent bytes field after field, piece by piece, and changes the slots in place.
 ghost use Prim.Native.Nat.{_≤_, _+_};
 ghost use lib.ListN.{length};
 ghost use Rattle.plain.specs.Plain.{leastReply};
@@ -8,8 +8,8 @@ ghost use Rattle.engine.specs.Engine.{RefusedFirst, WorkDoes};
 use serial::Line;
 use slots::Rack;
 
-// Fields worked: the rack after them, the bytes that they had, the index after their replies, and the number of the refusal of
-// the field behind them, or 0.
+// Fields worked: the rack after them, the bytes used, the index after their replies, and the number of the refusal of
+// the next field, or 0.
 pub struct Worked {
     pub rack: Rack,
     pub used: usize,
@@ -17,8 +17,8 @@ pub struct Worked {
     pub code: u8,
 }
 
-// Works fields one after the other until one is refused, or their replies reach the index `full` of the buffer; at least one, so that
-// with `full` at 0 it is one alone. Each line of a reply ends by the byte `ending`.
+// Works fields one after another until one is refused or their replies reach the index `full` of the buffer. It works
+// at least one field, so with `full` at 0 it works exactly one. The byte `ending` ends each line of a reply.
 pub fn work(r: Rack, s: &[u8], out: &mut [u8], full: usize, ending: u8) -> Worked
     ensures refuses { λ w. ⌜ RefusedFirst r (now (s .entry)) (now (out .entry)) w (now (out .exit)) ⌝ }
     ensures works { λ w. ⌜ (Able r → full + leastReply ≤ length (now (out .entry)) → WorkDoes r (now (s .entry)) (now (out .entry)) full ending w (now (out .exit))) ⌝ }

@@ -1,4 +1,5 @@
--- THE SAME LIST AT ANOTHER ADDRESS: a cell worked by knob, keys and samples, in slot 6 of one rack and in slot 9 of another.
+-- THE SAME LIST AT ANOTHER ADDRESS: a cell run with knob, keys and samples, in slot 6 of one rack and in slot 9 of
+-- another.
 use Prim.Native.Nat.{ℕ, _/_, _%_}
 use mathlib.Core.Path.{_≡_}
 use mathlib.Core.List.{List, [], _∷_, _++_}
@@ -19,7 +20,8 @@ key a k = record { bytes = 2 ∷ 0 ∷ 2 ∷ a ∷ k ∷ []; room = 512 }
 abbrev pub knob : ℕ → ℕ → ℕ → Call
 knob a t d = record { bytes = 3 ∷ 0 ∷ 6 ∷ a ∷ t ∷ 0 ∷ 0 ∷ d / 256 ∷ d % 256 ∷ []; room = 512 }
 
--- slot 6: PV turned to 5 V and PC to 10 A, foldback armed, the output on, a sample of 10 A; the neighbour works meanwhile
+-- slot 6: PV turned to 5 V and PC to 10 A, foldback armed, the output on, a sample of 10 A; meanwhile the neighbour is
+-- in use too
 unfoldable pub here : List Call
 here =
     knob 6 0 50000 ∷ key 9 0 ∷ knob 6 1 10000 ∷ key 6 1 ∷ serial "ADR 9\rPV 3\r" ∷ key 6 0 ∷
@@ -34,7 +36,7 @@ there =
     serial "ADR 9\r" ∷ knob 9 0 50000 ∷ knob 9 1 10000 ∷ key 9 1 ∷
     key 9 0 ∷ sample 9 40000 5000 ∷ serial "FLT?\r" ∷ []
 
--- both end with the FOLD trip, the output still ordered, in local mode
+-- both end with the FOLD trip set, the output still ordered on, in local mode
 unfoldable pub foldedBack : Supply
 foldedBack =
     record {
@@ -56,9 +58,9 @@ foldedBack =
     }
 
 pub record Moved : Type 0 where
-  -- the shares are not the same entries: each field holds its own address
+  -- the shares differ as lists of entries, since each field contains its own address
   pub shares-differ : shareOf grammar (setupOf fittingList) here 6 ≡ shareOf grammar (setupOf listThere) there 9 → ⊥
-  -- there are such runs; they end alike, and so
+  -- there are such runs; they end alike, in this state
   pub runs-here : (r : Rack) × Run (setupOf fittingList) here r
   pub runs-there : (r : Rack) × Run (setupOf listThere) there r
   pub repeated : (r r₂ : Rack) → Run (setupOf fittingList) here r → Run (setupOf listThere) there r₂

@@ -1,4 +1,5 @@
--- A LIST OF CALLS AND ALL THAT COMES OF IT: a cell of model 0 in slot 6 trips, and its neighbour, a model 3 in slot 9, goes on.
+-- A LIST OF CALLS AND ITS WHOLE OUTCOME: a cell of model 0 in slot 6 trips, and its neighbour, a model 3 in slot 9,
+-- goes on.
 use Prim.Native.Nat.{ℕ, _/_, _%_}
 use Prim.Native.String.{String}
 use mathlib.Core.Path.{_≡_}
@@ -19,7 +20,7 @@ use Rattle.rack.specs.Demand3.{Run, setupOf, supplyAt}
 unfoldable pub fittingList : List ℕ
 fittingList = replicate 6 255 ++ 0 ∷ 255 ∷ 255 ∷ 3 ∷ replicate 21 255
 
--- a field of tag 1, of tag 2, of tag 4 and of tag 5; the reply buffer has 512 bytes
+-- fields of tags 1, 2, 4 and 5, with a reply buffer of 512 bytes
 abbrev pub serial : String → Call
 serial t = record { bytes = 1 ∷ 0 ∷ length (codes t) ∷ codes t; room = 512 }
 
@@ -32,8 +33,8 @@ lines a b = record { bytes = 4 ∷ 0 ∷ 2 ∷ a ∷ b ∷ []; room = 512 }
 abbrev pub sample : ℕ → ℕ → ℕ → Call
 sample a v i = record { bytes = 5 ∷ 0 ∷ 5 ∷ a ∷ v / 256 ∷ v % 256 ∷ i / 256 ∷ i % 256 ∷ []; room = 512 }
 
--- up to the trip: ADR comes in two fields, with a call between them that is refused for its buffer; FENA enables AC, both
--- trips and WANT off, and outlives RST, as PV does not; later comes a call of two bytes
+-- Up to the trip: ADR comes in two fields, and between them a call that is refused for its buffer. FENA enables AC,
+-- both trips and WANT off; unlike PV, it survives RST. Later comes a call of two bytes.
 unfoldable pub tripping : List Call
 tripping =
     serial "ADR" ∷ record { bytes = serial " 9\r" .bytes; room = 511 } ∷ serial " 6\rFENA 5A\r" ∷
@@ -41,10 +42,10 @@ tripping =
     sample 6 45833 0 ∷ record { bytes = 1 ∷ 0 ∷ []; room = 512 } ∷
     sample 6 45834 0 ∷ []
 
--- tripped, and no release: OUT 0; LINES with a bit that there is not, SO rising, an OUT 1 that it forbids, SO falling with
--- auto start off; the OUTPUT key in remote. A sample for an empty slot, and the neighbour's lines: among them a global and an
--- ADR in error, which are nobody's; a global that the neighbour takes and slot 6 refuses; and one with a wrong checksum, which is
--- the neighbour's alone
+-- Tripped and not released: OUT 0; LINES with a bit that does not exist, SO rising, an OUT 1 that SO forbids, SO
+-- falling with auto start off; the OUTPUT key in remote mode. Then a sample for an empty slot, and the neighbour's
+-- lines: among them a global and an ADR in error, which go to nobody; a global that the neighbour accepts and slot 6
+-- refuses; and one with a wrong checksum, which goes to the neighbour alone.
 unfoldable pub tripped : List Call
 tripped =
     serial "OUT 0\rFLT?\r" ∷ lines 6 1 ∷ lines 6 32 ∷ serial "OUT 1\rFLT?\r" ∷ lines 6 0 ∷ key 6 0 ∷
@@ -52,7 +53,7 @@ tripped =
     serial "ADR 9\rPV 10\r" ∷ serial "GPV x\rADR 31\r" ∷ serial "OUT 1\rGPV 5.3\r" ∷ sample 9 20000 0 ∷
     serial "GPV 6$00\rPV?\r" ∷ []
 
--- the release; a query with its checksum; the events enabled, once; and LOCAL and FOLD on the panel
+-- the release; a query with its checksum; the enabled events, read once; and the keys LOCAL and FOLD
 unfoldable pub released : List Call
 released =
     serial "ADR 6\rOUT 1\r" ∷ serial "FLT?$25\rPV?\r" ∷ serial "FEVE?\rFEVE?\r" ∷
@@ -61,7 +62,7 @@ released =
 unfoldable pub calls : List Call
 calls = tripping ++ tripped ++ released
 
--- the same chemist in a rack of one supply, the lines cut into fields another way
+-- the same chemist in a rack of one supply, with the lines split into fields differently
 unfoldable pub listAlone : List ℕ
 listAlone = replicate 6 255 ++ 0 ∷ replicate 24 255
 
@@ -72,7 +73,7 @@ alone =
     serial "OUT 0\rFLT?\r" ∷ lines 6 32 ∷ serial "OUT 1\rFLT?\r" ∷ lines 6 0 ∷ key 6 0 ∷ serial "GPV 5.3\r" ∷
     serial "OUT 1\rFLT?$25\r" ∷ serial "PV?\rFEVE?\rFEVE?\r" ∷ key 6 2 ∷ key 6 1 ∷ serial "FLD?\rRMT?\r" ∷ []
 
--- what a call came to: the number of its refusal; or the bytes used and the reply
+-- the outcome of a call: the number of its refusal; or the bytes used and the reply
 pub data Came : Type 0 where
   no : ℕ → Came
   yes : ℕ → List ℕ → Came
@@ -100,7 +101,7 @@ expected =
 abbrev pub typed : String → Entry
 typed t = line (codes t) false
 
--- the share of slot 6 up to the trip, until the release, and from there on
+-- the share of slot 6 up to the trip, from there to the release, and from there on
 unfoldable pub shareTripping : List Entry
 shareTripping =
     typed "FENA 5A" ∷ typed "PV 4" ∷ typed "RST" ∷ typed "PV?" ∷
@@ -117,14 +118,15 @@ shareReleased =
     typed "OUT 1" ∷ typed "FLT?$25" ∷ typed "PV?" ∷ typed "FEVE?" ∷ typed "FEVE?" ∷
     field 2 (6 ∷ 2 ∷ []) ∷ field 2 (6 ∷ 1 ∷ []) ∷ typed "FLD?" ∷ typed "RMT?" ∷ []
 
--- and of its neighbour until then: neither the ill-formed global nor the ADR in error, though it was selected
+-- and the neighbour's share up to the release: neither the ill-formed global nor the ADR in error is in it, although
+-- the neighbour was selected
 unfoldable pub shareNeighbour : List Entry
 shareNeighbour =
     typed "PV 10" ∷ typed "OUT 1" ∷ typed "GPV 5.3" ∷ field 5 (9 ∷ 78 ∷ 32 ∷ 0 ∷ 0 ∷ []) ∷
     typed "GPV 6$00" ∷ typed "PV?" ∷ []
 
--- slot 6 at the end: the setting that the global would not change, the output ordered, no trip, foldback armed and the
--- panel in charge; the faults enabled, the events read and gone, and the last counts
+-- slot 6 at the end: the setting that the global did not change, the output ordered on, no trip, foldback armed and the
+-- panel in control; the enabled faults, no events after they were read, and the last counts
 unfoldable pub endState : Supply
 endState =
     record {
@@ -145,18 +147,19 @@ endState =
       «amp_count» = 0;
     }
 
--- ALL THAT COMES OF IT
+-- THE WHOLE OUTCOME
 pub record WorkedOut : Type 0 where
-  -- each call's answer
+  -- what each call returns
   pub answers-are : answers (freshRack plainSupply (setupOf fittingList)) calls ≡ expected
-  -- what slot 6 was given, trip and release at their places; and its neighbour, until the release
+  -- the share of slot 6, with trip and release in their places; and the neighbour's, up to the release
   pub share-is : shareOf grammar (setupOf fittingList) calls 6 ≡ shareTripping ++ shareTripped ++ shareReleased
   pub share-beside : shareOf grammar (setupOf fittingList) (tripping ++ tripped) 9 ≡ shareNeighbour
-  -- there is such a run; and each one leaves the supply of slot 6 so, with its output on
+  -- there is such a run; every such run leaves the supply of slot 6 in this state, with its output on
   pub there-is-one : (r : Rack) × Run (setupOf fittingList) calls r
   pub ends-as : (r : Rack) → Run (setupOf fittingList) calls r → supplyAt r 6 ≡ endState
   pub ends-on : onOf endState ≡ true
-  -- until the release slot 6 is off, whatever came meanwhile, and the neighbour runs, with the PV that the global gave it
+  -- up to the release slot 6 is off, whatever comes meanwhile, and the neighbour is on, with the PV that the global
+  -- gave it
   pub stays-off : (r : Rack) → Run (setupOf fittingList) (tripping ++ tripped) r → onOf (supplyAt r 6) ≡ false
   pub neighbour-runs : (r : Rack) → Run (setupOf fittingList) (tripping ++ tripped) r → (onOf (supplyAt r 9) ≡ true) × (supplyAt r 9 .pv ≡ 53000)
   -- the chemist alone, in another rack, ends in the same state

@@ -1,2 +1,3 @@
 // Layer calls.
-// No code: a list of calls worked out, with each answer, the shares and the states that supplies end in; and what a customer has of demand 3.
+// A worked list of calls, with what each returns, the shares and the final states of supplies; and what demand 3 gives
+// a customer. There is no code.

@@ -1,5 +1,5 @@
 // Layer rack.
-// A field's tag, length, payload and values: the parts, or a refusal, with no rack in sight.
+// A field's tag, length, payload and values, or its refusal. Nothing here knows the rack.
 ghost use mathlib.Core.Path.{_≡_};
 ghost use Prim.Native.Nat.{_+_, _<_, _≤_};
 ghost use lib.ListN.{length, getD, take, drop};
@@ -8,7 +8,7 @@ use supply::Act;
 use supply::Key;
 use supply::Target;
 
-// A field's head: code 0, or refusal 2 to 5; its tag and the length of its payload.
+// The header of a field: code 0 or refusal 2 to 5, its tag and the length of its payload.
 pub struct Header {
     pub code: u8,
     pub tag: u8,
@@ -21,14 +21,14 @@ pub struct Counts {
     pub amps: u16,
 }
 
-// The byte at index i, and 0 past the end.
+// The byte at index i, or 0 past the end.
 pub fn byte_at(s: &[u8], i: usize) -> u8
     ensures { λ r. ⌜ r ≡ getD (now (s .entry)) i 0 ⌝ }
 {
     if i < s.len() { s[i] } else { 0 }
 }
 
-// Two bytes as one number, the high byte first.
+// Two bytes as one number, high byte first.
 fn pair_at(s: &[u8], i: usize) -> u16
     requires { ⌜ i < 65536 ⌝ }
     ensures { λ r. ⌜ r ≡ pairAt (now (s .entry)) i ⌝ }
@@ -36,7 +36,7 @@ fn pair_at(s: &[u8], i: usize) -> u16
     (byte_at(s, i) as u16) * 256 + (byte_at(s, i + 1) as u16)
 }
 
-// Four bytes as one number, the high byte first.
+// Four bytes as one number, high byte first.
 fn quad_at(s: &[u8], i: usize) -> u32
     requires { ⌜ i < 65534 ⌝ }
     ensures { λ r. ⌜ r ≡ quadAt (now (s .entry)) i ⌝ }
@@ -44,7 +44,7 @@ fn quad_at(s: &[u8], i: usize) -> u32
     (pair_at(s, i) as u32) * 65536 + (pair_at(s, i + 2) as u32)
 }
 
-// The length is allowed for the tag.
+// Whether this length is allowed for the tag.
 fn length_fits(tag: u8, n: usize) -> bool
     ensures { λ r. ⌜ r ≡ lengthFits tag n ⌝ }
 {
@@ -56,7 +56,7 @@ fn length_fits(tag: u8, n: usize) -> bool
     }
 }
 
-// The head of the first field of the lent bytes.
+// The header of the first field of the lent bytes.
 pub fn read_header(b: &[u8]) -> Header
     ensures { λ r. ⌜ (r .code ≡ headerCode (now (b .entry))) × (r .tag ≡ tagOf (now (b .entry))) × (r .length ≡ lengthOf (now (b .entry))) ⌝ }
 {
@@ -69,7 +69,7 @@ pub fn read_header(b: &[u8]) -> Header
     }
 }
 
-// Refusals 2 to 5 in turn.
+// Refusals 2 to 5, in that order, or 0.
 fn header_code(b: &[u8], tag: u8, length: usize) -> u8
     requires { ⌜ (tag ≡ tagOf (now b)) × (length ≡ lengthOf (now b)) × (length < 65536) ⌝ }
     ensures { λ r. ⌜ r ≡ headerCode (now (b .entry)) ⌝ }
@@ -87,7 +87,7 @@ fn header_code(b: &[u8], tag: u8, length: usize) -> u8
     if n < 3 + length { 5 } else { 0 }
 }
 
-// The payload of a field that is there in full.
+// The payload of a complete field.
 pub fn payload(b: &[u8], n: usize) -> &[u8]
     requires { ⌜ 3 + n ≤ length (now b) ⌝ }
     ensures { λ r. ⌜ now r ≡ take n (drop 3 (now (b .entry))) ⌝ }
@@ -96,7 +96,7 @@ pub fn payload(b: &[u8], n: usize) -> &[u8]
     &b[3..end]
 }
 
-// A sample stands first, in whole.
+// Whether the bytes begin with a complete sample.
 pub fn is_sample(b: &[u8]) -> bool
     ensures { λ r. ⌜ r ≡ isSample (now (b .entry)) ⌝ }
 {
@@ -106,7 +106,7 @@ pub fn is_sample(b: &[u8]) -> bool
     (byte_at(b, 0) == 5) & (pair_at(b, 1) == 5)
 }
 
-// The counts of the sample that stands first.
+// The counts of the sample with which the bytes begin.
 pub fn sample_counts(b: &[u8]) -> Counts
     ensures { λ r. ⌜ r ≡ record { volts = pairAt (now (b .entry)) 4; amps = pairAt (now (b .entry)) 6 } ⌝ }
 {
@@ -116,7 +116,7 @@ pub fn sample_counts(b: &[u8]) -> Counts
     }
 }
 
-// Key, target and LINES have values that are listed.
+// Whether the key, target or LINES of a field has one of the listed values.
 pub fn values_fit(tag: u8, p: &[u8]) -> bool
     ensures { λ r. ⌜ r ≡ valuesFit tag (now (p .entry)) ⌝ }
 {
@@ -129,7 +129,7 @@ pub fn values_fit(tag: u8, p: &[u8]) -> bool
     }
 }
 
-// The key with this number pressed.
+// A press of the key with this number.
 fn press_of(n: u8) -> Act
     ensures { λ r. ⌜ r ≡ pressOf n ⌝ }
 {

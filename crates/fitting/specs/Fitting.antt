@@ -1,4 +1,4 @@
--- A fitting list: which lists are taken, and the fresh rack of a setup.
+-- A fitting list: which lists are accepted, and the fresh rack of a setup.
 use Prim.Native.Nat.{ℕ}
 use mathlib.Core.Path.{_≡_}
 use mathlib.Core.List.{List, foldl}
@@ -22,7 +22,7 @@ allAllowed l = foldl (λ (t : Bool) (m : ℕ). t && allowed m) true l
 abbrev pub goodList : List ℕ → Bool
 goodList l = eqb (length l) 31 && allAllowed l
 
--- the fresh rack of a setup: every supply as it is when fitted, no selection, and an empty line that is not spoiled
+-- the fresh rack of a setup: every supply as it is when fitted, nobody selected, and an empty line that is not spoiled
 pub record Made (u : Setup) (r : Rack) : Type 0 where
   pub small : Able r
   pub fresh-is : viewOf r ≡ freshRack plainSupply u

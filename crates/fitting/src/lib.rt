@@ -1,12 +1,12 @@
 // Layer calls.
-// The parts of a fitting list in code: its bytes judged, its models, and the fresh rack that they make.
+// The parts of a fitting list in code: the check of its bytes, its models, and the fresh rack that they make.
 ghost use mathlib.Core.Path.{_≡_};
 ghost use lib.ListN.{length};
 ghost use Rattle.fitting.specs.Fitting.{allAllowed, Made};
 use slots::Rack;
 use wire::Setup;
 
-// Each byte is a model number, or 255 for an empty slot.
+// Whether each byte is a model number, or 255 for an empty slot.
 pub fn all_allowed(list: &[u8]) -> bool
     ensures { λ r. ⌜ r ≡ allAllowed (now (list .entry)) ⌝ }
 {

@@ -1,4 +1,4 @@
--- A global, as it comes to the slot at an address.
+-- A global, as it reaches the slot at an address.
 use Prim.Native.Nat.{ℕ}
 use Rattle.base.specs.Choice.{pick}
 use Rattle.wire.specs.declared.Setup.{Setup}
@@ -8,6 +8,6 @@ use Rattle.supply.specs.declared.Order.{Order}
 use Rattle.supply.specs.declared.Act.the-variants.{Obey}
 use Rattle.acts.specs.Acts.{performed}
 
--- an order to every fitted slot, each supply judging for itself
+-- an order to every fitted slot; each supply judges it for itself
 abbrev pub orderedAt : Setup → Order → ℕ → Supply → Supply
 orderedAt u o a s = pick (fitted u a) (performed (modelAt u a) s (Obey o)) s

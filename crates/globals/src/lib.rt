@@ -1,5 +1,5 @@
 // Layer rack.
-// A global in code: an order to every fitted slot, each supply judging for itself.
+// A global in code: an order to every fitted slot; each supply judges it for itself.
 ghost use mathlib.Core.Path.{_≡_};
 ghost use Rattle.base.specs.Lists.{eachTo};
 ghost use Rattle.acts.specs.Acts.{performed};
@@ -26,7 +26,7 @@ fn after_order(model: u8, s: Supply, o: Order) -> Supply
     after
 }
 
-// An order to every fitted slot. A figure for a setting, as most globals bring, takes the shorter of two ways.
+// Gives an order to every fitted slot. Most globals set a setting, so this case takes a shorter path.
 pub fn order_all(u: Setup, slots: [Supply; 31], o: Order) -> [Supply; 31]
     ensures { λ r. ⌜ r ≡ eachTo (orderedAt u o) 31 slots ⌝ }
 {

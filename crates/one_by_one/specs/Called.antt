@@ -9,12 +9,12 @@ use Rattle.slots.specs.declared.Rack.{Rack}
 use Rattle.calls.specs.declared.Answer.{Answer}
 use Rattle.calls.specs.Calls.{CallDoes}
 
--- from an index on a buffer still has what stood in it before the call
+-- from this index on, the buffer still has the byte that filled it before the call
 abbrev pub Unwritten : List ℕ → ℕ → Type 0
 Unwritten b from = (i : ℕ) → i < length b → from ≤ i → getD b i 0 ≡ 165
 
--- the answer is that of one call on the rack r, with a reply buffer of 512 bytes, and what it left in the buffer is printed with LF for
--- each CR of the reply
+-- the answer is that of one call on the rack r, with a reply buffer of 512 bytes; what the call left in the buffer is
+-- handed on with LF for each CR of the reply
 pub record OneCall (r : Rack) (s : List ℕ) (a : Answer) (b : List ℕ) : Type 0 where
   pub before : List ℕ
   pub after : List ℕ

@@ -1,7 +1,8 @@
 // Layer outside.
-// The controller's input worked by the two functions that customers call: `fit` takes the fitting list, and each field is one `call`
-// with a reply buffer of the least size. It prints what the controller prints. Each field is tried first with a buffer that is a byte
-// too short: where that is not refused with 1, or leaves a trace, `wrong` is printed, then `refused 1`, and the program ends.
+// Works the controller's input with the two functions that customers call: `fit` takes the fitting list, and each field
+// is one `call` with the shortest reply buffer allowed. It prints what the controller prints. It tries each field first
+// with a buffer that is one byte too short: if that is not refused with 1, or leaves a trace, it prints `wrong`, then
+// `refused 1`, and ends.
 ghost use mathlib.Core.Path.{_≡_};
 ghost use mathlib.Core.Bool.{true};
 ghost use lib.ListN.{length};
@@ -10,27 +11,27 @@ ghost use Rattle.one_by_one.specs.Called.{Unwritten, OneCall};
 use rack::Answer;
 use slots::Rack;
 
-// What stands in a reply buffer before a call: no reply has this byte.
+// What fills a reply buffer before a call: no reply contains this byte.
 const UNWRITTEN: u8 = 0xA5;
 
-// The least reply buffer that a call takes, and the longest that it refuses.
+// The shortest reply buffer that a call accepts, and the longest that it refuses.
 const LEAST: usize = 512;
 
 const SHORT: usize = 511;
 
-// The bytes of a fitting list.
+// The length of a fitting list.
 const LIST: usize = 31;
 
 // The byte that ends each line written.
 const LF: u8 = 10;
 
-// A call with a short buffer: the rack that it gives back, and whether it was refused as it should be.
+// A call with a short buffer: the rack that it returned, and whether it was refused as it should be.
 struct Tried {
     rack: Rack,
     right: bool,
 }
 
-// From an index on the buffer is as it was before the call.
+// Whether the buffer is as it was before the call, from an index on.
 fn unwritten(reply: &[u8], from: usize) -> bool
     ensures { λ r. ⌜ (r ≡ true → Unwritten (now (reply .entry)) from) × (Unwritten (now (reply .entry)) from → r ≡ true) ⌝ }
 {
@@ -44,7 +45,7 @@ fn unwritten(reply: &[u8], from: usize) -> bool
     true
 }
 
-// The buffer as it is before a call.
+// Fills the buffer as it has to be before a call.
 fn fill(reply: &mut [u8])
     ensures { λ _. ⌜ (length (now (reply .exit)) ≡ length (now (reply .entry))) × Unwritten (now (reply .exit)) 0 ⌝ }
 {
@@ -55,7 +56,7 @@ fn fill(reply: &mut [u8])
     }
 }
 
-// The field in a buffer that is a byte too short.
+// Tries the field with a buffer that is one byte too short.
 fn try_short(r: Rack, s: &[u8]) -> Tried
     ensures { λ t. ⌜ t ≡ record { rack = r; right = true } ⌝ }
 {
@@ -66,7 +67,8 @@ fn try_short(r: Rack, s: &[u8]) -> Tried
     Tried { rack, right }
 }
 
-// Nothing that is proved leads here; the machine code is tried all the same. No list draws refusal 1.
+// The proofs show that this never happens; it is checked all the same, to test the machine code. No fitting list draws
+// refusal 1.
 fn put_wrong(r: Rack, out: &mut [u8]) -> Answer {
     let length = base::put_text(out, 0, b"wrong\n");
     Answer {
@@ -77,8 +79,8 @@ fn put_wrong(r: Rack, out: &mut [u8]) -> Answer {
     }
 }
 
-// The first field of the bytes, by one call on the rack that the short buffer left. What is to be written stands at the start of the
-// buffer.
+// Works the first field of the bytes, by one call on the rack that the short buffer left. What is to be written stands
+// at the start of the buffer.
 fn take_field(r: Rack, s: &[u8], out: &mut [u8]) -> Answer
     requires { ⌜ Able r × (length (now out) ≡ 512) ⌝ }
     ensures { λ a. ⌜ OneCall r (now (s .entry)) a (now (out .exit)) ⌝ }
@@ -95,8 +97,8 @@ fn take_field(r: Rack, s: &[u8], out: &mut [u8]) -> Answer
     a
 }
 
-// Works the input field by field, and writes what each draws, to the input's end, the first refusal or a fault; tells the number of the
-// refusal, or 0.
+// Works the input field by field and writes the replies of each, until the input ends, a field is refused or a fault
+// occurs; returns the number of the refusal, or 0.
 fn take_input(r: Rack, room: &mut [u8], out: &mut [u8]) -> u8
     requires { ⌜ Able r × (length (now out) ≡ 512) × (length (now room) ≡ 8192) ⌝ }
 {

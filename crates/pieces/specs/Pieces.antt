@@ -1,5 +1,5 @@
--- A PIECE OF A FIELD: what it reads of the bytes, and what it leaves and says, of the line and one supply, in any rack that has this
--- supply in the slot that the piece reaches.
+-- A PIECE OF A FIELD: which bytes it reads, and what it leaves and says. It works on the line and one supply, in any
+-- rack that has this supply in the slot that the piece reaches.
 use Prim.Native.Nat.{ℕ, _+_, _*_, _≤_, _<_}
 use mathlib.Core.Path.{_≡_}
 use mathlib.Core.Logic.{_⊎_}
@@ -29,7 +29,8 @@ use Rattle.pieces.specs.declared.Advance.{Advance}
 use Rattle.pieces.specs.declared.Piece.{Piece}
 use Rattle.pieces.specs.declared.Evented.{Evented}
 
--- n characters alone: no line ends, the same slot stays selected, and each character is paid for
+-- n characters and no CR: no line ends, the same slot stays selected, and what the line may draw grows by at most the
+-- rate for each character
 pub record Typing (l : Line) (p : List ℕ) (n : ℕ) (r : Line) : Type 0 where
   pub small : Short r
   pub selects : r .selected ≡ l .selected
@@ -42,21 +43,22 @@ pub record CharsTaken (l : Line) (p : List ℕ) (n : ℕ) (r : Line) : Type 0 wh
   pub stops : n < length p → getD p n 0 ≡ 13
   pub typed : length (l .kept) ≡ 64 → Short l → Typing l p n r
 
--- the same in the code, whatever slot is selected
+-- the same in the code, whichever slot is selected
 pub record CharsDo (kept : List ℕ) (count : ℕ) (spoiled : Bool) (p kept′ : List ℕ) (r : Advance) : Type 0 where
   pub same : length kept′ ≡ length kept
   pub chars : (selected : ℕ) → CharsTaken (lineOf kept count spoiled selected) p (r .next) (lineOf kept′ (r .count) (r .spoiled) selected)
 
--- an LF that stands at index i is passed, and nothing else
+-- skips an LF at index i, and nothing else
 abbrev pub FeedDoes : List ℕ → ℕ → ℕ → Type 0
 FeedDoes p i r = ((r ≡ i) × (i < length p → getD p i 0 ≡ 10 → ⊥)) ⊎ ((r ≡ i + 1) × (i < length p) × (getD p i 0 ≡ 10))
 
--- items of a field, n of them serial bytes, leave the rack q of the rack r, say what stands in the buffer, and are fair
+-- the items of a field, n of them serial bytes, turn rack r into rack q, write their replies to the buffer, and leave
+-- room as `Fair` says
 pub record Leaves (r : Rack) (is : List Item) (n : ℕ) (q : Rack) (b : List ℕ) (at next : ℕ) (b′ : List ℕ) : Type 0 where
   pub moves : Moves r (scan grammar (r .setup) (wireOf (r .line)) is) q b at next b′
   pub fair : Fair r (scan grammar (r .setup) (wireOf (r .line)) is) n
 
--- what a piece leaves, its line as the definitions have it
+-- what a piece leaves, with its line as in the definitions
 pub record After : Type 0 where
   pub line : Line
   pub supply : Supply
@@ -80,17 +82,17 @@ afterPiece kept p =
       order = p .order;
     }
 
--- the slots after a piece: the supply that it leaves put back into slot k, or its order given to all
+-- the slots after a piece: the supply that it leaves is put back into slot k, or its order is given to all
 abbrev pub slotsAfter : Setup → After → List Supply → ℕ → List Supply
 slotsAfter u p ss k = pick (p .all) (eachTo (orderedAt u (p .order)) 31 ss) (set ss k (p .supply))
 
--- in any rack whose slot k has the supply x, k being the slot of the address a if there is a supply
+-- what a piece does in any rack whose slot k is the supply x, where k is the slot of address a if there is a supply
 abbrev pub Does : Setup → Line → Supply → ℕ → List Item → ℕ → After → List ℕ → ℕ → List ℕ → Type 0
 Does u l x a is n p b at b′ =
     (ss : List Supply) (k : ℕ) → x ≡ getD ss k (fresh 255) → (fitted u a ≡ true → k ≡ a) → length ss ≤ 31 → length (l .kept) ≡ 64 → Short l
     → Leaves (rackIs ss l u) is n (rackIs (slotsAfter u p ss k) (p .line) u) b at (p .next) b′
 
--- serial bytes with `head` bytes before them, up to the end of a line or all of them
+-- serial bytes after `head` bytes, up to the end of a line, or all of them if no line ends
 pub record LineDoes (u : Setup) (l : Line) (x : Supply) (p : List ℕ) (head : ℕ) (r : After) (b : List ℕ) (at : ℕ) (b′ : List ℕ) : Type 0 where
   pub taken : ℕ
   pub used-is : r .used ≡ head + taken
@@ -99,19 +101,21 @@ pub record LineDoes (u : Setup) (l : Line) (x : Supply) (p : List ℕ) (head : �
   pub code-is : r .code ≡ 0
   pub does : Does u l x (l .selected) (map byte (take taken p)) taken r b at b′
 
--- a refusal: its number, and all as it was
+-- a refusal: its number, and everything as it was
 abbrev pub refusedAs : Line → Supply → ℕ → ℕ → After
 refusedAs l x at n = record { line = l; supply = x; next = at; used = 0; left = 0; code = n; all = false; order = Cls }
 
--- the model of the supply that a sample names; 255 where the next piece is none, or where no supply is there
+-- the model of the supply that a sample names; 255 if the next piece is not a sample, or if there is no supply at that
+-- address
 abbrev pub sampleModel : Setup → List ℕ → ℕ → ℕ
 sampleModel u s left = pick (eqb left 0) (pick (isSample s) (modelAt u (getD s 3 0)) 255) 255
 
--- the next piece is of serial bytes
+-- whether the next piece consists of serial bytes
 abbrev pub isSerial : List ℕ → ℕ → Bool
 isSerial s left = ltb 0 left || eqb (tagOf s) 1
 
--- what the bytes bring next: `left` serial bytes of a field that was begun, or a field; and how many serial bytes that may be
+-- what the bytes bring next: the `left` serial bytes of a field already begun, or a new field; and how many serial
+-- bytes that can be
 abbrev pub itemsAt : Setup → List ℕ → ℕ → Parsed
 itemsAt u s left = pick (ltb 0 left) (accept left (map byte (take left s))) (readField (fitted u) s)
 
@@ -124,7 +128,7 @@ pub record PieceRefused (u : Setup) (l : Line) (x : Supply) (s : List ℕ) (left
   pub is : r ≡ refusedAs l x at (r .code)
   pub buffer-is : b′ ≡ b
 
--- the piece has the first items of what the bytes bring, and the rest is left
+-- the piece takes the first items of what the bytes bring, and leaves the rest
 pub record PieceTaken (u : Setup) (l : Line) (x : Supply) (a : ℕ) (s : List ℕ) (left : ℕ) (r : After) (b : List ℕ) (at : ℕ) (b′ : List ℕ) : Type 0 where
   pub items : List Item
   pub taken : ℕ
@@ -136,7 +140,7 @@ pub record PieceTaken (u : Setup) (l : Line) (x : Supply) (a : ℕ) (s : List �
   pub short : taken + r .left ≤ most left
   pub does : Does u l x a items taken r b at b′
 
--- where x is the supply at the address a
+-- what a piece does, where x is the supply at address a
 abbrev pub PieceDoes : Setup → Line → Supply → ℕ → List ℕ → ℕ → After → List ℕ → ℕ → List ℕ → Type 0
 PieceDoes u l x a s left r b at b′ = PieceRefused u l x s left r b at b′ ⊎ PieceTaken u l x a s left r b at b′
 
@@ -154,7 +158,7 @@ sampleAs u l x at s =
       order = Cls;
     }
 
--- and so is any field that is none of serial bytes
+-- and so is every other field that is not serial
 abbrev pub eventAs : Line → ℕ → Evented → After
 eventAs l at e = record { line = l; supply = e .supply; next = at; used = e .used; left = 0; code = e .code; all = false; order = Cls }
 

@@ -1,6 +1,6 @@
 // Layer calls.
-// A piece of a field: a field of tags 2 to 5, or serial bytes up to the end of a line or of their field. It needs the line and one
-// supply, and no rack.
+// A piece of a field: a field of tags 2 to 5, or serial bytes up to the end of a line or of their field. It needs only
+// the line and one supply, not the rack.
 ghost use mathlib.Core.Path.{_≡_};
 ghost use mathlib.Core.Bool.{true, false};
 ghost use Prim.Native.Nat.{_≤_, _<_};
@@ -17,16 +17,17 @@ use supply::Order;
 use supply::Supply;
 use wire::Setup;
 
-// The line after the characters before a CR, or before the end: how many it keeps and whether it is spoiled; and the index of that CR or end.
+// The line after the characters before a CR or the end of the bytes: how many are kept, whether it is spoiled, and the
+// index of that CR or end.
 struct Advance {
     count: usize,
     spoiled: bool,
     next: usize,
 }
 
-// What a piece leaves: of the line the count of its characters, whether it is spoiled and the slot selected; the supply of the slot
-// that the piece reaches; the index after its reply, the bytes that it had, how many of its field are left, and an order that is
-// for all; or the number of a refusal, and all as it was.
+// What a piece leaves: how many characters the line keeps, whether it is spoiled and which slot is selected; the supply
+// of the slot that the piece reaches; the index after its reply, how many bytes it used, how many bytes of its field
+// are left, and possibly an order for all. Or the number of a refusal, with everything as it was.
 pub struct Piece {
     pub count: usize,
     pub spoiled: bool,
@@ -40,15 +41,16 @@ pub struct Piece {
     pub order: Order,
 }
 
-// What a field of tags 2 to 5 leaves: the supply of the slot that it names and the bytes that it had; or the number of a refusal.
+// What a field of tags 2 to 5 leaves: the supply of the slot that it names and the number of bytes used; or the number
+// of a refusal.
 pub struct Evented {
     pub supply: Supply,
     pub used: usize,
     pub code: u8,
 }
 
-// A piece that says nothing and ends its field: one that is refused where there is a code. An order has to stand there; nobody
-// looks at it.
+// A piece that says nothing and ends its field; with a code other than 0, a refused one. The order is only a
+// placeholder; nobody reads it.
 fn silent(
     count: usize,
     spoiled: bool,
@@ -75,7 +77,7 @@ fn silent(
     }
 }
 
-// A line that ended, as a piece.
+// The end of a line, as a piece.
 fn line_ended(e: Ended, used: usize, left: usize) -> Piece
     ensures { λ p. ⌜ p ≡ record { count = 0; spoiled = false; selected = e .selected; supply = e .supply; next = e .next; used = used; left = left; code = 0; all = e .all; order = e .order } ⌝ }
 {
@@ -95,7 +97,7 @@ fn line_ended(e: Ended, used: usize, left: usize) -> Piece
     }
 }
 
-// The characters of a line, up to its CR or the end.
+// Takes the characters of a line up to its CR or the end of the bytes.
 fn take_chars(kept: &mut [u8; 64], n: usize, was: bool, p: &[u8]) -> Advance
     ensures { λ r. ⌜ CharsDo (now (kept .entry)) n was (now (p .entry)) (now (kept .exit)) r ⌝ }
 {
@@ -115,7 +117,7 @@ fn take_chars(kept: &mut [u8; 64], n: usize, was: bool, p: &[u8]) -> Advance
     }
 }
 
-// The index behind an LF that stands at index i, and i where none does: boards end their lines by CR LF, and an LF does nothing.
+// The index after an LF at index i, or i if there is none. Boards end their lines with CR LF, and an LF does nothing.
 fn past_feed(p: &[u8], i: usize) -> usize
     ensures { λ r. ⌜ FeedDoes (now (p .entry)) i r ⌝ }
 {
@@ -125,7 +127,7 @@ fn past_feed(p: &[u8], i: usize) -> usize
     if p[i] == 10 { i + 1 } else { i }
 }
 
-// Serial bytes up to the end of a line or of their field; `head` bytes stand before them.
+// Serial bytes up to the end of a line or of their field; `head` bytes come before them.
 fn take_line(
     u: Setup,
     kept: &mut [u8; 64],
@@ -164,7 +166,7 @@ fn event_left(s: Supply, used: usize, code: u8) -> Evented
     }
 }
 
-// A field that is none of serial bytes, where the address that it names has the supply s.
+// A field that is not serial, where s is the supply at the address that it names.
 pub fn take_event(u: Setup, s: Supply, b: &[u8]) -> Evented
     ensures { λ r. ⌜ EventDoes u s (now (b .entry)) r ⌝ }
 {
@@ -189,7 +191,7 @@ pub fn take_event(u: Setup, s: Supply, b: &[u8]) -> Evented
     event_left(supply, used, 0)
 }
 
-// The model of the supply that a sample names, where the next piece is one; else 255. Most fields are samples.
+// The model of the supply that a sample names if the next piece is a sample, otherwise 255. Most fields are samples.
 pub fn sample_model(u: Setup, b: &[u8], left: usize) -> u8
     ensures { λ r. ⌜ (r ≡ sampleModel u (now (b .entry)) left) × ((r ≡ 255 → ⊥) → getD (now (b .entry)) 3 0 < 31) ⌝ }
 {
@@ -203,7 +205,7 @@ pub fn sample_model(u: Setup, b: &[u8], left: usize) -> u8
     }
 }
 
-// A sample that stands first, for a supply of this model.
+// The sample with which the bytes begin, taken by a supply of this model.
 pub fn take_sample(model: u8, s: Supply, b: &[u8]) -> Supply
     ensures { λ r. ⌜ r ≡ performed model s (Sample (pairAt (now (b .entry)) 4) (pairAt (now (b .entry)) 6)) ⌝ }
 {
@@ -211,7 +213,7 @@ pub fn take_sample(model: u8, s: Supply, b: &[u8]) -> Supply
     acts::sampled(model, s, counts.volts, counts.amps)
 }
 
-// Serial bytes of a field that has `left` bytes left, or of a new one; given the supply of the slot selected.
+// Serial bytes of a field with `left` bytes still to come, or of a new field, given the supply of the selected slot.
 pub fn take_serial(
     u: Setup,
     kept: &mut [u8; 64],
@@ -238,14 +240,14 @@ pub fn take_serial(
     take_line(u, kept, count, spoiled, selected, s, part, 3, buf, at)
 }
 
-// The next piece of the bytes is of serial bytes.
+// Whether the next piece consists of serial bytes.
 pub fn is_serial(b: &[u8], left: usize) -> bool
     ensures { λ r. ⌜ r ≡ isSerial (now (b .entry)) left ⌝ }
 {
     (0 < left) | (field::byte_at(b, 0) == 1)
 }
 
-// The slot of an address; the first one where no supply is there.
+// The slot of an address, or the first slot if there is no supply at the address.
 pub fn slot_or_first(u: Setup, a: u8) -> usize
     ensures { λ r. ⌜ (r < 31) × (fitted u a ≡ true → r ≡ a) × (fitted u a ≡ false → r ≡ 0) ⌝ }
 {

@@ -28,7 +28,7 @@ unfoldable pub replyTo : ℕ → Supply → Entry → List ℕ
 replyTo m s (field t p) = []
 replyTo m s (line kept spoiled) = repliedTo m s (heardOf kept spoiled .asks) (heardOf kept spoiled .checksummed)
 
--- the class of a line by what it asks; the line's own replies carry its checksum
+-- the class of a line, from what it asks; the line's own replies carry its checksum
 abbrev pub classBy : Asks → Bool → Class
 classBy (Select n) checksummed = select n (replyOf checksummed (codeText 0))
 classBy (BadSelect c) checksummed = faulty (replyOf checksummed (codeText c))
@@ -40,7 +40,7 @@ classBy (Error c) checksummed = other
 unfoldable pub classOf : List ℕ → Bool → Class
 classOf kept spoiled = classBy (heardOf kept spoiled .asks) (heardOf kept spoiled .checksummed)
 
--- the least reply buffer that a call takes
+-- the shortest reply buffer that a call accepts
 abbrev pub leastReply : ℕ
 leastReply = 512
 
@@ -50,7 +50,8 @@ grammar = record { classOf = classOf; least = leastReply; read = readField }
 abbrev pub plainSupply : Plain
 plainSupply = record { State = Supply; step = stepOf; reply = replyTo; fresh = fresh; grammar = grammar; closing = λ u ss ts. [] }
 
--- is the entry, taken by a supply in this state, a release of the trip; GOUT 1 and GRST count as OUT 1 and RST
+-- whether what a line asks releases the trip, if a supply in this state takes it; GOUT 1 and GRST count as OUT 1 and
+-- RST
 abbrev pub releasesBy : ℕ → Trip → Supply → Asks → Bool
 releasesBy m k s (One a) = releases m k s a
 releasesBy m k s (Everyone o) = releases m k s (Obey o)

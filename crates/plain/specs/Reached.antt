@@ -1,4 +1,5 @@
--- EVERY SUPPLY THAT CALLS LEAD TO IS COHERENT: refusal 7 looked at its fields, and lines are looked at as they are read.
+-- EVERY SUPPLY REACHED BY CALLS IS COHERENT: refusal 7 checks the values of its fields, and lines are checked as they
+-- are read.
 use Prim.Native.Nat.{ℕ}
 use mathlib.Core.Path.{_≡_}
 use mathlib.Core.Bool.{Bool, true}
@@ -16,7 +17,7 @@ use Rattle.command.specs.Lines.{heardOf}
 use Rattle.field.specs.Fields.{valuesFit, actOf}
 use Rattle.plain.specs.Plain.{grammar, plainSupply}
 
--- what a line has a supply do, if anything
+-- what a line asks a supply to do, if anything, is checked
 abbrev pub CheckedAsks : Asks → Type 0
 CheckedAsks (One a) = Checked a
 CheckedAsks (Everyone o) = Checked (Obey o)
@@ -31,12 +32,12 @@ Passed (field t p) = valuesFit t p ≡ true
 Passed (line kept spoiled) = Unit
 
 pub record SharesCoherent : Type 0 where
-  -- whatever a line holds, what it asks is checked: RMT takes 0, 1 or 2
+  -- whatever a line contains, what it asks is checked: RMT takes 0, 1 or 2
   pub lines-checked : (kept : List ℕ) (spoiled : Bool) → CheckedAsks (heardOf kept spoiled .asks)
-  -- and so is what a field asks that passed refusal 7
+  -- and so is what a field asks if it passed refusal 7
   pub fields-checked : (t : ℕ) (p : List ℕ) → valuesFit t p ≡ true → Checked (actOf t p)
-  -- each field of a share did pass it
+  -- every field of a share passed it
   pub entries-passed : SharesHold grammar Passed
-  -- so a plain supply of any model, from fresh, ends coherent on any address's share of any list of calls
+  -- so a fresh plain supply of any model ends coherent on any address's share of any list of calls
   pub coherent : (m : ℕ) (u : Setup) (calls : List Call) (a : ℕ)
       → Coherent (plain plainSupply m (shareOf grammar u calls a))

@@ -1,5 +1,5 @@
--- WHICH LINES ARE IN A SHARE, from their own characters: an address's share once more, this time by what the lines are, and
--- not by the class that the rack takes them for.
+-- WHICH LINES ARE IN A SHARE, from their own characters: a second definition of an address's share, by what the lines
+-- are and not by the class that the rack gives them.
 use Prim.Native.Nat.{ℕ}
 use mathlib.Core.List.{List, [], _∷_, _++_}
 use mathlib.Core.Bool.{Bool, false, not, _&&_, _||_}
@@ -13,15 +13,16 @@ use Rattle.plain.specs.Plain.{grammar}
 use Rattle.plain.specs.Classes.{isAdr, isGlobal, isC02, isC03, isC05, addressIn}
 
 module _ (u : Setup) where
-  -- does the address take a line that ends while `sel` is selected: nobody takes an ADR, in error or not; each fitted slot
-  -- takes a well-formed global, and nobody an ill-formed one; any other line goes to the slot selected
+  -- whether the address takes a line that ends while `sel` is selected: nobody takes an ADR, in error or not; every
+  -- fitted slot takes a well-formed global, and nobody an ill-formed one; any other line goes to the selected slot
   abbrev pub takes : ℕ → ℕ → List ℕ → Bool → Bool
   takes a sel kept spoiled =
       pick (isAdr kept spoiled) false
       (pick (isGlobal kept spoiled) (not (isC02 kept || isC03 kept) && fitted u a)
       (fitted u sel && eqb a sel))
 
-  -- who is selected after it: the slot that an ADR names, or nobody where that is empty; an ADR in error moves nothing
+  -- which slot is selected after it: the one that an ADR names, or nobody if that slot is empty; an ADR in error
+  -- changes nothing
   abbrev pub selectedAfter : ℕ → List ℕ → Bool → ℕ
   selectedAfter sel kept spoiled =
       pick (isAdr kept spoiled && not (isC02 kept || (isC03 kept || isC05 kept)))
@@ -36,6 +37,6 @@ module _ (u : Setup) where
       given (takes a sel (t .kept) (t .spoiled)) (line (t .kept) (t .spoiled)) ++
       entriesOf a (selectedAfter sel (t .kept) (t .spoiled)) ps
 
-  -- of a list of calls; a fresh rack selects nobody
+  -- the share for a list of calls; in a fresh rack nobody is selected
   abbrev pub shareFor : List Call → ℕ → List Entry
   shareFor calls a = entriesOf a nobody (arrivals [] (stream grammar u calls))

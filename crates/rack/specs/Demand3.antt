@@ -1,4 +1,5 @@
--- DEMAND 3 OF THE CODE: what holds of every rack that a fitting list and a list of calls lead to, refused calls included.
+-- DEMAND 3 FOR THE CODE: what holds for every rack reached by a fitting list and a list of calls, refused calls
+-- included.
 use Prim.Native.Nat.{ℕ, _*_, _≤_}
 use mathlib.Core.Path.{_≡_}
 use mathlib.Core.Bool.{true, false}
@@ -24,7 +25,8 @@ use Rattle.calls.specs.Calls.{CallDoes}
 use Rattle.fitting.specs.Fitting.{goodList}
 use Rattle.rack.specs.Fit.{FitDoes}
 
--- one call made with a buffer of the length named; Rest is what is said of the rack that it answered, on a refusal the same rack
+-- one call with a buffer of the given length; Rest is what holds for the rack that it returned, which after a refusal
+-- is the same rack
 pub record Through (r : Rack) (c : Call) (Rest : Rack → Type 0) : Type 0 where
   pub buffer : List ℕ
   pub room-is : length buffer ≡ c .room
@@ -33,16 +35,16 @@ pub record Through (r : Rack) (c : Call) (Rest : Rack → Type 0) : Type 0 where
   pub does : CallDoes r (c .bytes) buffer answer left
   pub rest : Rest (answer .rack)
 
--- the calls, each on the rack that the one before answered, lead from r to q
+-- the calls lead from r to q, each working on the rack that the one before it returned
 abbrev pub Leads : Rack → List Call → Rack → Type 0
 Leads r [] q = q ≡ r
 Leads r (c ∷ cs) q = Through r c (λ m. Leads m cs q)
 
--- the setup that a fitting list stands for
+-- the setup that a fitting list describes
 abbrev pub setupOf : List ℕ → Setup
 setupOf l = record { models = l }
 
--- the setup of a list that `fit` takes, and the rack that the calls lead to from what it made
+-- a setup whose list `fit` accepts, and the rack that the calls reach from the one that `fit` made
 pub record Run (u : Setup) (calls : List Call) (r : Rack) : Type 0 where
   pub list : List ℕ
   pub setup-is : u ≡ setupOf list
@@ -51,34 +53,35 @@ pub record Run (u : Setup) (calls : List Call) (r : Rack) : Type 0 where
   pub fits : FitDoes list fitting
   pub leads : Leads (fitting .rack) calls r
 
--- the supply in a slot of the rack of the code
+-- the supply in a slot of the code's rack
 abbrev pub supplyAt : Rack → ℕ → Supply
 supplyAt r a = getD (r .slots) a (fresh 255)
 
--- of one fitted address, after the calls
+-- what holds for one fitted address, after the calls
 pub record AtAddress (u : Setup) (calls : List Call) (a : ℕ) : Type 0 where
-  -- the whole state is the plain supply's, from fresh, on the address's own share
+  -- the whole state is that of a fresh plain supply after the address's own share
   pub ends : (r : Rack) → Run u calls r → supplyAt r a ≡ plain plainSupply (modelAt u a) (shareOf grammar u calls a)
-  -- equal models and equal shares leave slots equal, in any two racks
+  -- equal models and equal shares give equal slots, in any two racks
   pub alike :
       (r : Rack) → Run u calls r
       → (u₂ : Setup) (calls₂ : List Call) (r₂ : Rack) (b : ℕ) → Run u₂ calls₂ r₂
       → modelAt u a ≡ modelAt u₂ b
       → shareOf grammar u calls a ≡ shareOf grammar u₂ calls₂ b
       → supplyAt r a ≡ supplyAt r₂ b
-  -- and so do shares that are equal once the address that each field holds is taken off, so that a and b may differ
+  -- and so do shares that are equal apart from the address in each field, so a and b may differ
   pub alike-unaddressed :
       (r : Rack) → Run u calls r
       → (u₂ : Setup) (calls₂ : List Call) (r₂ : Rack) (b : ℕ) → Run u₂ calls₂ r₂ → modelAt u a ≡ modelAt u₂ b
       → map unaddressed (shareOf grammar u calls a) ≡ map unaddressed (shareOf grammar u₂ calls₂ b)
       → supplyAt r a ≡ supplyAt r₂ b
-  -- the voltage margins, and with them the limits of the model, hold after every beginning of the list
+  -- the voltage margins, and the limits of the model, hold after every prefix of the list
   pub margins : (past rest : List Call) (r : Rack) → calls ≡ past ++ rest → Run u past r
       → (20 * supplyAt r a .uvl ≤ 19 * supplyAt r a .pv) × (21 * supplyAt r a .pv ≤ 20 * supplyAt r a .ovp)
   pub limits : (past rest : List Call) (r : Rack) → calls ≡ past ++ rest → Run u past r → Lawful (modelAt u a) (supplyAt r a)
-  -- and so it is with the rest of the state: MODE at most 2, LINES of listed bits alone, no FOLD trip without ARMED
+  -- and so does coherence of the rest of the state: MODE at most 2, only listed bits in LINES, no FOLD trip unless
+  -- ARMED
   pub coherent : (past rest : List Call) (r : Rack) → calls ≡ past ++ rest → Run u past r → Coherent (supplyAt r a)
-  -- the call that trips leaves the output off, and so does each one behind it, as long as none has brought a release of that trip
+  -- the output is off after the call that trips and after every later call, until one brings a release of that trip
   pub calls-off : (k : Trip) (past rest : List Call) (r : Rack) → calls ≡ past ++ rest → Run u past r
       → TrippedBy plainSupply trips (modelAt u a) k (shareOf grammar u past a)
       → onOf (supplyAt r a) ≡ false
@@ -86,7 +89,7 @@ pub record AtAddress (u : Setup) (calls : List Call) (a : ℕ) : Type 0 where
   pub entries-off : (k : Trip) (past rest : List Entry) → shareOf grammar u calls a ≡ past ++ rest
       → TrippedBy plainSupply trips (modelAt u a) k past
       → onOf (plain plainSupply (modelAt u a) past) ≡ false
-  -- each named release does clear its trip
+  -- every release named does clear its trip
   pub freed : (k : Trip) (past : List Entry) (e : Entry) (rest : List Entry) → shareOf grammar u calls a ≡ past ++ e ∷ rest
       → releasesOf (modelAt u a) k (plain plainSupply (modelAt u a) past) e ≡ true
       → isSet k (stepOf (modelAt u a) (plain plainSupply (modelAt u a) past) e) ≡ false

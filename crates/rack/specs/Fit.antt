@@ -7,7 +7,7 @@ use lib.ListN.{replicate}
 use Rattle.fitting.specs.Fitting.{goodList, Made}
 use Rattle.rack.specs.declared.Fitted.{Fitted}
 
--- a list that is refused gives the rack of 31 empty slots
+-- a refused list gives the rack of 31 empty slots
 pub record FitDoes (l : List ℕ) (f : Fitted) : Type 0 where
   pub refuses : goodList l ≡ false → (f .code ≡ 8) × Made (record { models = replicate 31 255 }) (f .rack)
   pub makes : goodList l ≡ true → (f .code ≡ 0) × Made (record { models = l }) (f .rack)

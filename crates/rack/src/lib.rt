@@ -1,18 +1,18 @@
 // Layer calls.
-// The two functions that customers call: `fit` makes a rack of a fitting list, and `call` takes one field.
+// The two functions that customers call: `fit` makes a rack from a fitting list, and `call` takes one field.
 ghost use Rattle.rack.specs.Fit.{FitDoes};
 pub use calls::Answer;
 pub use calls::call;
 use slots::Rack;
 
-// What a fitting list makes: code 0 and a fresh rack, or 8 and a rack of empty slots.
+// What a fitting list makes: code 0 and a fresh rack, or code 8 and a rack of empty slots.
 #[repr(C)]
 pub struct Fitted {
     pub code: u8,
     pub rack: Rack,
 }
 
-// A fitting list: 31 bytes, for each slot its model, or 255 where it is empty.
+// Makes a rack from a fitting list: 31 bytes, each the model of a slot, or 255 if the slot is empty.
 pub fn fit(list: &[u8]) -> Fitted
     ensures { λ f. ⌜ FitDoes (now (list .entry)) f ⌝ }
 {

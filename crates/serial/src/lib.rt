@@ -8,7 +8,7 @@ ghost use lib.ListN.{take};
 use command::Heard;
 use wire::Setup;
 
-// The line: kept characters and their count, whether it is spoiled, and the slot selected, 31 for nobody.
+// The line: the kept characters and their count, whether it is spoiled, and the selected slot, or 31 for nobody.
 #[repr(C)]
 pub struct Line {
     pub kept: [u8; 64],
@@ -29,13 +29,13 @@ pub fn fresh_line() -> Line
     }
 }
 
-// What a character leaves beside the kept ones: their count, and whether the line is spoiled.
+// The line after a character, apart from the array: how many characters are kept, and whether the line is spoiled.
 pub struct Counted {
     pub count: usize,
     pub spoiled: bool,
 }
 
-// A serial byte other than CR.
+// Takes a serial byte other than CR.
 pub fn take_char(kept: &mut [u8; 64], count: usize, spoiled: bool, b: u8) -> Counted
     ensures { λ r. ⌜ CharDoes (now (kept .entry)) count spoiled b (now (kept .exit)) r ⌝ }
 {
@@ -71,7 +71,7 @@ pub fn hear(kept: &[u8; 64], count: usize, spoiled: bool) -> Heard
     command::read_line(base::part_to(kept, count), spoiled)
 }
 
-// The model at an address, 255 where none is.
+// The model at an address, or 255 if there is no supply.
 pub fn model_at(u: Setup, a: u8) -> u8
     ensures { λ r. ⌜ r ≡ modelAt u a ⌝ }
 {
@@ -80,7 +80,7 @@ pub fn model_at(u: Setup, a: u8) -> u8
     if i < 31 { models[i] } else { 255 }
 }
 
-// There is a supply at the address.
+// Whether there is a supply at the address.
 pub fn has_supply(u: Setup, a: u8) -> bool
     ensures { λ r. ⌜ r ≡ fitted u a ⌝ }
 {

@@ -1,5 +1,6 @@
 // Layer rack.
-// A line at its CR, of the line and the supply of the slot selected; and the rack, as its definitions see it.
+// A line at its CR, worked with only the line and the supply of the selected slot; and the rack that its definitions
+// describe.
 ghost use mathlib.Core.Path.{_≡_};
 ghost use mathlib.Core.Bool.{false};
 ghost use Rattle.wire.specs.Wire.{select, faulty};
@@ -24,8 +25,8 @@ pub struct Rack {
     pub setup: Setup,
 }
 
-// What a line leaves at its CR, beside a line that keeps nothing: the slot selected now, the supply of the slot selected before and
-// the index after the reply; or an order that is for all.
+// What a line leaves at its CR, besides a line that keeps nothing: the slot selected now, the supply of the slot
+// selected before, and the index after the reply; or an order for all.
 pub struct Ended {
     pub selected: u8,
     pub supply: Supply,
@@ -34,7 +35,7 @@ pub struct Ended {
     pub order: Order,
 }
 
-// A line for at most one supply, ended. An order has to stand there; nobody looks at it.
+// The end of a line for at most one supply. The order is only a placeholder; nobody reads it.
 fn one_ended(selected: u8, supply: Supply, next: usize) -> Ended
     ensures { λ e. ⌜ e ≡ record { selected = selected; supply = supply; next = next; all = false; order = Cls } ⌝ }
 {
@@ -48,7 +49,7 @@ fn one_ended(selected: u8, supply: Supply, next: usize) -> Ended
     }
 }
 
-// ADR of an address: the slot selected says OK, an empty one selects nobody.
+// ADR: selects the slot of an address, which says OK; if it is empty, nobody is selected.
 fn select_slot(u: Setup, s: Supply, a: u8, checksummed: bool, buf: &mut [u8], at: usize) -> Ended
     ensures { λ e. ⌜ (e .all ≡ false) × ((l : Line) → EndsByClass u l s (select a (replyOf checksummed (codeText 0))) e (now (buf .entry)) at (now (buf .exit))) ⌝ }
 {
@@ -60,7 +61,7 @@ fn select_slot(u: Setup, s: Supply, a: u8, checksummed: bool, buf: &mut [u8], at
     }
 }
 
-// A code said by the slot selected, if there is one; nothing moves.
+// The selected slot, if there is one, replies with an error code; nothing else changes.
 fn say_code(
     u: Setup,
     selected: u8,
@@ -80,7 +81,7 @@ fn say_code(
     }
 }
 
-// A line to the slot selected, if there is one: its supply obeys and replies.
+// A line for the selected slot, if there is one: its supply obeys and replies.
 fn tell_one(
     u: Setup,
     selected: u8,
@@ -102,8 +103,8 @@ fn tell_one(
     one_ended(selected, supply, next)
 }
 
-// A line at its CR, given the supply of the slot selected: what comes of it, or the order that it has for all, which is for the
-// caller to carry out.
+// A line at its CR, given the supply of the selected slot: what it leaves, or an order for all, which the caller must
+// carry out.
 pub fn end_one(
     u: Setup,
     kept: &[u8; 64],

@@ -1,4 +1,4 @@
--- HOWEVER THE INPUT IS CUT into reads, the same comes of it: replies, rack and refusal are those of the whole input.
+-- HOW THE INPUT IS SPLIT INTO READS MAKES NO DIFFERENCE: replies, rack and refusal are those of the whole input.
 use Prim.Native.Nat.{ℕ, _+_}
 use mathlib.Core.Path.{_≡_}
 use mathlib.Core.Logic.{_⊎_}
@@ -8,15 +8,17 @@ use Rattle.wire.specs.Rack as wire
 use Rattle.supply.specs.declared.Supply.{Supply}
 use Rattle.engine.specs.Engine.{ran, allFields}
 
--- a refusal that bytes to come may mend: too few for a header, or for the payload; and one that they cannot
+-- a refusal that further bytes may mend, as there were too few for a header or for the payload; and a refusal that they
+-- cannot mend
 abbrev pub Waits : ℕ → Type 0
 Waits n = (n ≡ 2) ⊎ (n ≡ 5)
 
 abbrev pub Final : ℕ → Type 0
 Final n = (n ≡ 2 → ⊥) × (n ≡ 5 → ⊥)
 
--- k reads brought the bytes s, the last of them those of b. The bytes of each read are worked behind those that were kept, as fields in
--- turn, up to one that is refused with n, and what is left is kept; another read comes only where that refusal waits
+-- k reads have brought the bytes s, and the last of them brought b. Each read's bytes are appended to the kept bytes
+-- and worked as fields in turn, up to one that is refused with n; what is left is kept. Another read follows only if
+-- that refusal waits for more bytes.
 pub data Reads (v : wire.Rack Supply) : (k : ℕ) (s b : List ℕ) (q : wire.Rack Supply) (kept said : List ℕ) (n : ℕ) → Type 0 where
   nothing : Reads v 0 [] [] v [] [] 2
   read :
@@ -24,7 +26,7 @@ pub data Reads (v : wire.Rack Supply) : (k : ℕ) (s b : List ℕ) (q : wire.Rac
       → (c : List ℕ) (p : wire.Rack Supply) (used : ℕ) (t : List ℕ) (m : ℕ) → ran p used t m ≡ allFields q (kept ++ c)
       → Reads v (k + 1) (s ++ c) c p (drop used (kept ++ c)) (said ++ t) m
 
--- an input that was read up to a refusal that is final, or to its end
+-- an input read up to a final refusal, or to its end
 pub record Ends (v : wire.Rack Supply) (input : List ℕ) (q : wire.Rack Supply) (said : List ℕ) (n : ℕ) : Type 0 where
   pub count : ℕ
   pub bytes : List ℕ
@@ -35,12 +37,12 @@ pub record Ends (v : wire.Rack Supply) (input : List ℕ) (q : wire.Rack Supply)
   pub reads : Reads v count bytes last q kept said n
   pub over : (unread ≡ []) ⊎ Final n
 
--- it was worked as fields in turn on the whole input, up to the one that is refused with n
+-- the outcome is that of fields in turn on the whole input, up to the one that is refused with n
 pub record Whole (v : wire.Rack Supply) (input : List ℕ) (q : wire.Rack Supply) (said : List ℕ) (n : ℕ) : Type 0 where
   pub used : ℕ
   pub is : ran q used said n ≡ allFields v input
 
--- so two ways to cut one input end in the same rack, have said the same, and are refused alike
+-- so however one input is split, it ends in the same rack, with the same replies and the same refusal
 abbrev pub SplitsMakeNoDifference : Type 0
 SplitsMakeNoDifference =
     (v : wire.Rack Supply) (input : List ℕ)

@@ -1,2 +1,3 @@
 // Layer calls.
-// No code: the input of the program, however it is cut into reads, is worked as a whole; and fields worked behind a run are a longer run.
+// The program works its input as a whole, however it is split into reads; and fields worked after a run extend that
+// run. There is no code.

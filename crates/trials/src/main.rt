@@ -1,22 +1,22 @@
 // Layer checks.
-// Tries the supply on a table of cases, its standard input: a line of 38 numbers for each case, with
-// what is expected. A second model of the supply, which shares nothing with this one, writes the
-// table (tests/src/trial.rs tells what each number is). Prints how many cases there were and how
-// many went wrong, and before that the lines of the first wrong ones.
+// Tries the supply on a table of cases from standard input: one line of 38 numbers for each case, with the expected
+// outcome. A second model of the supply, which shares nothing with this one, writes the table (tests/src/trial.rs says
+// what each number is). Prints the lines of the first wrong cases, then how many cases there were and how many were
+// wrong.
 mod rows;
 
 use libc::STDIN_FILENO;
 use libc::STDOUT_FILENO;
 use rows::CELLS;
 
-// The next cell of a row with too many numbers, or with something that is none.
+// The next cell of a row that has too many numbers, or something that is not a number.
 const SPOILED: usize = 39;
 
-// So many wrong cases are named.
+// How many wrong cases are named.
 const NAMED: u64 = 10;
 
-// How far the table is read: the next cell of the row, the number so far, the cases tried, those
-// that went wrong, and whether the input may have more.
+// How far the table is read: the next cell of the row, the number so far, how many cases were tried, how many were
+// wrong, and whether the input may have more.
 struct Tally {
     at: usize,
     number: u64,
@@ -38,7 +38,7 @@ fn name_wrong(line: u64, wrong: u64) {
     }
 }
 
-// A digit behind a number; no number of a table is as large as where this stops.
+// Appends a digit to a number; no number in a table is as large as the bound.
 fn with_digit(n: u64, d: u8) -> u64 {
     if n < 1_000_000_000_000_000_000 {
         n * 10 + d as u64
@@ -47,7 +47,7 @@ fn with_digit(n: u64, d: u8) -> u64 {
     }
 }
 
-// A character of a number; one that is no digit spoils the row.
+// A character of a number; anything but a digit spoils the row.
 fn take_digit(t: Tally, b: u8) -> Tally {
     let mut r = t;
     if b < b'0' {
@@ -62,7 +62,7 @@ fn take_digit(t: Tally, b: u8) -> Tally {
     r
 }
 
-// A number ends, and goes to its cell.
+// A number ends and goes to its cell.
 fn end_number(row: &mut [u64; CELLS], t: Tally) -> Tally {
     let at = t.at;
     let mut r = t;
@@ -109,7 +109,7 @@ fn take_bytes(row: &mut [u64; CELLS], t: Tally, s: &[u8]) -> Tally {
     r
 }
 
-// Reads a block of the table, and tries each case that ends in it.
+// Reads a block of the table and tries each case that ends in it.
 fn take_block(row: &mut [u64; CELLS], t: Tally) -> Tally {
     let mut buf = io::large_buffer();
     let n = io::read_full(STDIN_FILENO, &mut buf);
@@ -118,7 +118,7 @@ fn take_block(row: &mut [u64; CELLS], t: Tally) -> Tally {
     r
 }
 
-// Reads to the end of the input, in more blocks than any table has.
+// Reads to the end of the input; the bound allows more blocks than any table has.
 fn take_table() -> Tally {
     let mut row = [0u64; CELLS];
     let mut t = Tally {

@@ -1,5 +1,5 @@
-// A case of the supply as a row of 38 numbers has it: the state before, an act, and what is expected of it. Makes the
-// state and the act of the numbers, and tells whether the supply does what the row expects. tests/src/trial.rs tells what
+// A case of the supply as a row of 38 numbers: the state before, an act, and what is expected of it. Makes the state
+// and the act from the numbers, and decides whether the supply does what the row expects. tests/src/trial.rs says what
 // each number is.
 use supply::Act;
 use supply::Key;
@@ -99,7 +99,7 @@ fn act_of(kind: u64, a: u64, b: u64) -> Act {
     }
 }
 
-// How many values the first operand of a kind of act has: none where there is no such kind.
+// How many values the first operand of a kind of act can have; none if there is no such kind.
 fn first_values(kind: u64) -> u64 {
     match kind {
         0 | 6 | 12 | 13 => 1,
@@ -113,7 +113,7 @@ fn first_values(kind: u64) -> u64 {
     }
 }
 
-// How many values the second operand has.
+// How many values the second operand can have.
 fn second_values(kind: u64) -> u64 {
     match kind {
         2 => 65536,
@@ -123,7 +123,7 @@ fn second_values(kind: u64) -> u64 {
     }
 }
 
-// A number of the row, counted from the cell where its part begins; 0 behind the last.
+// A number of the row, counted from the cell where its part begins; 0 past the last.
 fn cell(row: &[u64; CELLS], at: u8, k: u8) -> u64 {
     let i = at as usize + k as usize;
     if i < CELLS { row[i] } else { 0 }
@@ -176,7 +176,7 @@ fn counts_agree(row: &[u64; CELLS], at: u8, s: Supply) -> bool {
     (cell(row, at, 13) == s.volt_count as u64) & (cell(row, at, 14) == s.amp_count as u64)
 }
 
-// Whether a supply is, in every part of its state, the one that begins at a cell.
+// Whether a supply has, in every part, the state that begins at a cell.
 fn supply_agrees(row: &[u64; CELLS], at: u8, s: Supply) -> bool {
     settings_agree(row, at, s)
         & switches_agree(row, at, s)
@@ -216,7 +216,7 @@ fn reply_agrees(row: &[u64; CELLS], model: u8, s: Supply, a: Act) -> bool {
     }
 }
 
-// Whether there are such a model, such an act, and the supply that was made of the row.
+// Whether there is such a model and such an act, and the row holds exactly the state that was made from it.
 fn row_reads(row: &[u64; CELLS], before: Supply) -> bool {
     let kind = cell(row, ACT, 0);
     (cell(row, 0, 0) < 12)

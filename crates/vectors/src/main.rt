@@ -1,5 +1,6 @@
 // Layer checks.
-// Vectors that run, a line each: entries as they are read, sums as they are printed, and each model's readings at a count of 65,535.
+// Test vectors, one on each line: numbers as they are read, checksums as they are printed, and each model's readings at
+// a count of 65,535.
 use libc::STDOUT_FILENO;
 
 // Writes the first n bytes of buf, and ends the line.
@@ -10,7 +11,7 @@ fn line(buf: &mut [u8], n: usize) {
     }
 }
 
-// Places what s reads as, with four decimals.
+// Appends the number that s reads as, with four decimals.
 fn put_read(buf: &mut [u8], at: usize, s: &[u8]) -> usize {
     let n = figures::read_number(s, 4);
     if n.good {
@@ -20,7 +21,7 @@ fn put_read(buf: &mut [u8], at: usize, s: &[u8]) -> usize {
     }
 }
 
-// An entry, and what it reads as.
+// A number as typed, and what it reads as.
 fn entry(s: &[u8]) {
     let mut buf = [0u8; 64];
     let p = base::put_text(&mut buf, 0, s);

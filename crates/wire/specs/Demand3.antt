@@ -1,4 +1,4 @@
--- DEMAND 3: what holds of every list of calls on a fresh rack, for any plain supply M with trips K and invariant I.
+-- DEMAND 3: what holds after every list of calls on a fresh rack, for any plain supply M with trips K and invariant I.
 use mathlib.Core.Path.{_≡_}
 use mathlib.Core.Bool.{true, false}
 use mathlib.Core.List.{List, _∷_, _++_}
@@ -10,8 +10,8 @@ use Rattle.wire.specs.Rack.{Plain, run, slot, plain}
 use Rattle.wire.specs.Laws.{Trips}
 use Rattle.wire.specs.declared.Setup.{Setup}
 
--- on the entries es a fresh supply of the model m is tripped and not released: one of them sets its trip k, and no later one is a
--- release of k
+-- The entries es trip a fresh supply of model m and do not release it: one of them sets trip k, and no later one
+-- releases k.
 abbrev pub TrippedBy : (M : Plain) (K : Trips M) → ℕ → K .Trip → List Entry → Type 0
 TrippedBy M K m k es = Tripped (M .step m) (M .fresh m) (K .isSet k) (K .releases m k) es
 
@@ -19,36 +19,37 @@ module _ (M : Plain) (K : Trips M) (I : ℕ → M .State → Type 0) where
   open Plain M using (step, grammar)
   open Trips K using (Trip, isSet, isOn, releases)
 
-  -- of one fitted address
+  -- what holds for one fitted address
   pub record AtSlot (u : Setup) (calls : List Call) (a : ℕ) : Type 0 where
-    -- the whole state: the slot ends as the plain supply of its model, from fresh, does on the address's share
+    -- the whole state: the slot ends in the state that a fresh plain supply of its model reaches on the address's share
     pub ends : slot M (run M u calls) a ≡ plain M (modelAt u a) (shareOf grammar u calls a)
-    -- alike: any slot of any rack with the same model and the same entries in its share ends in the same state
+    -- alike: any slot of any rack with the same model and the same share ends in the same state
     pub alike :
         (v : Setup) (calls₂ : List Call) (b : ℕ)
         → modelAt u a ≡ modelAt v b
         → shareOf grammar u calls a ≡ shareOf grammar v calls₂ b
         → slot M (run M u calls) a ≡ slot M (run M v calls₂) b
-    -- margins and limits hold after every beginning of the list of calls
+    -- the invariant (margins and limits) holds after every prefix of the list of calls
     pub invariant : (past rest : List Call) → calls ≡ past ++ rest → I (modelAt u a) (slot M (run M u past) a)
-    -- and after every entry of the share
+    -- and after every prefix of the share
     pub entries-invariant :
         (past rest : List Entry)
         → shareOf grammar u calls a ≡ past ++ rest
         → I (modelAt u a) (plain M (modelAt u a) past)
-    -- over the share: off after the entry that trips, and so on until an entry comes that releases that trip
+    -- over the share: the output is off from the entry that trips until an entry releases that trip
     pub entries-off :
         (k : Trip) (past rest : List Entry)
         → shareOf grammar u calls a ≡ past ++ rest
         → TrippedBy M K (modelAt u a) k past
         → isOn (plain M (modelAt u a) past) ≡ false
-    -- over the calls: off in the rack after the call that trips, and after each later one whose share brings no such release
+    -- over the calls: in the rack the output is off from the call that trips until the share brings a release of that
+    -- trip
     pub calls-off :
         (k : Trip) (past rest : List Call)
         → calls ≡ past ++ rest
         → TrippedBy M K (modelAt u a) k (shareOf grammar u past a)
         → isOn (slot M (run M u past) a) ≡ false
-    -- each entry that is a release of a trip leaves that trip clear
+    -- every entry that releases a trip leaves that trip clear
     pub freed :
         (k : Trip) (past : List Entry) (e : Entry) (rest : List Entry)
         → shareOf grammar u calls a ≡ past ++ e ∷ rest

@@ -1,4 +1,4 @@
--- What an entry of a share is known to have: whatever every line has, and every field that the grammar accepts.
+-- What holds for every entry of a share: a property of all lines and of all fields that the grammar accepts.
 use mathlib.Core.Bool.{Bool}
 use mathlib.Core.List.{List}
 use Prim.Native.Nat.{ℕ}
@@ -7,16 +7,16 @@ use Rattle.wire.specs.Wire.{Entry, line, Item, byte, event, Call, Gramma
 use Rattle.wire.specs.Share.{items, shareOf}
 use Rattle.wire.specs.declared.Setup.{Setup}
 
--- of the items of a stream P speaks of the fields of other tags
+-- P holds for an item of the stream: it says something about fields of other tags and nothing about serial bytes
 abbrev pub inItem : (Entry → Type 0) → Item → Type 0
 inItem P (byte b) = Unit
 inItem P (event a e) = P e
 
--- every line has P, and so has each field of another tag that a call brings, whichever addresses are fitted
+-- P holds for every line, and for every field of another tag that a call brings, whichever addresses are fitted
 pub record Holds (γ : Grammar) (P : Entry → Type 0) : Type 0 where
   pub lines : (kept : List ℕ) (spoiled : Bool) → P (line kept spoiled)
   pub fields : (fits : ℕ → Bool) (bytes : List ℕ) → Every (inItem P) (items (γ .read fits bytes))
 
--- then every entry of every share has it, whatever the calls
+-- then P holds for every entry of every share, whatever the calls
 abbrev pub SharesHold : Grammar → (Entry → Type 0) → Type 0
 SharesHold γ P = (u : Setup) (calls : List Call) (a : ℕ) → Every P (shareOf γ u calls a)

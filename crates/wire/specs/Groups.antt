@@ -1,5 +1,6 @@
--- Slots taken together: what a group of them ends as. In this rack no slot acts on another, so that any set of fitted slots is a
--- closed group, a single one too; where slots act on each other, a group holds with each all that it acts on.
+-- Slots taken together: the states in which a group of them ends. In this rack no slot acts on another, so any set of
+-- fitted slots is a closed group, even a single slot. If slots acted on each other, a group would have to include every
+-- slot that its members act on.
 use mathlib.Core.Path.{_≡_}
 use mathlib.Core.Bool.{Bool, true, false}
 use mathlib.Core.List.{List}
@@ -15,8 +16,8 @@ touching g (one a e) = g a
 touching g (all e) = true
 touching g (say t) = false
 
--- The addresses of g, fitted under u, with the same models under v: what a delivery that touches g does there is decided by the
--- states in g, alike under both setups, and one that does not touch g does nothing there.
+-- Every address of g is fitted under u and has the same model under v. What a delivery that touches g does in g depends
+-- only on the states in g and is the same under both setups; a delivery that does not touch g changes nothing in g.
 pub record Closed (M : Plain) (u v : Setup) (g : ℕ → Bool) (touches : Delivery → Bool) : Type 0 where
   pub inside : (a : ℕ) → g a ≡ true → fitted u a ≡ true
   pub models : (a : ℕ) → g a ≡ true → modelAt u a ≡ modelAt v a
@@ -30,11 +31,11 @@ pub record Closed (M : Plain) (u v : Setup) (g : ℕ → Bool) (touches : Delive
 module _ (M : Plain) (g : ℕ → Bool) (touches : Delivery → Bool) where
   open Plain M using (grammar)
 
-  -- the group ends as its plain supplies do, taken together, on the joint share
+  -- the group ends in the states that its plain supplies, taken together, reach on the joint share
   pub record GroupEnds (u : Setup) (calls : List Call) : Type 0 where
     pub ends : (a : ℕ) → g a ≡ true → slot M (run M u calls) a ≡ together M u (jointShare grammar u calls touches) a
 
-  -- under two setups alike in the group, two lists with the same joint share leave it in the same states
+  -- if two setups agree on the group, two lists of calls with the same joint share leave it in the same states
   pub record GroupAlike (u v : Setup) (calls₁ calls₂ : List Call) : Type 0 where
     pub alike :
         jointShare grammar u calls₁ touches ≡ jointShare grammar v calls₂ touches

@@ -1,4 +1,4 @@
--- The rack: what a call and a list of calls make of the supplies and the line.
+-- The rack: what a call, and a list of calls, does to the supplies and the line.
 use mathlib.Core.List.{List, [], _∷_, _++_, foldl}
 use Prim.Native.Nat.{ℕ}
 use lib.Dec.{eqb}
@@ -8,8 +8,8 @@ use Rattle.base.specs.Lists.{tabulate}
 use Rattle.wire.specs.Wire.{Entry, Delivery, one, all, say, Grammar, modelAt, fitted, Wire, Sent, Call, Parsed, refuse, accept, freshWire, parse, scan}
 use Rattle.wire.specs.declared.Setup.{Setup}
 
--- a plain supply: its whole state; what an entry does to the supply of a model, and its reply; its fresh state; the line's grammar;
--- and what the slots add behind the replies of a field, from their states before it and after it
+-- A plain supply: its whole state; what an entry does to a supply of a given model, and its reply; its fresh state; the
+-- grammar of the line; and what the slots add after the replies of a field, given their states before and after it.
 pub record Plain : Type 1 where
   pub State : Type 0
   pub step : ℕ → State → Entry → State
@@ -23,7 +23,7 @@ pub record Rack (S : Type 0) : Type 0 where
   pub slots : List S
   pub wire : Wire
 
--- what a call answers: the number of a refusal; or the new rack, the bytes used and the reply
+-- what a call returns: the number of a refusal; or the new rack, the number of bytes used and the reply
 pub data CallResult (S : Type 0) : Type 0 where
   refused : ℕ → CallResult S
   done : Rack S → ℕ → List ℕ → CallResult S
@@ -31,7 +31,7 @@ pub data CallResult (S : Type 0) : Type 0 where
 module _ (M : Plain) where
   open Plain M using (State, step, reply, fresh, grammar, closing)
 
-  -- HOW SUPPLIES ACT ON EACH OTHER: the state at the address a after a delivery, from the states at all addresses
+  -- HOW SUPPLIES ACT ON EACH OTHER: the state at address a after a delivery, given the states at all addresses
   abbrev pub next : Setup → (ℕ → State) → Delivery → ℕ → State
   next u f (one b e) a = pick (eqb a b) (step (modelAt u a) (f a) e) (f a)
   next u f (all e) a = pick (fitted u a) (step (modelAt u a) (f a) e) (f a)
@@ -44,7 +44,7 @@ module _ (M : Plain) where
   abbrev pub deliver : Setup → List State → Delivery → List State
   deliver u ss d = tabulate (length ss) (next u (stateAt ss) d)
 
-  -- the reply to a delivery: globals draw none
+  -- the reply to a delivery; a global draws none
   abbrev pub replyTo : Setup → List State → Delivery → List ℕ
   replyTo u ss (one a e) = reply (modelAt u a) (stateAt ss a) e
   replyTo u ss (all e) = []
@@ -54,11 +54,11 @@ module _ (M : Plain) where
   replies u ss [] = []
   replies u ss (d ∷ ds) = replyTo u ss d ++ replies u (deliver u ss d) ds
 
-  -- the rack after what the line has handed out
+  -- the rack after the deliveries that the line has handed out
   abbrev pub moved : Rack State → Sent → Rack State
   moved r s = record { setup = r .setup; slots = foldl (deliver (r .setup)) (r .slots) (s .sent); wire = s .wire }
 
-  -- what a field draws that found the slots ss
+  -- what a field draws, where ss are the slots as they were when it arrived
   abbrev pub drawnSince : List State → Rack State → Sent → List ℕ
   drawnSince ss r s = replies (r .setup) (r .slots) (s .sent) ++ closing (r .setup) ss (moved r s .slots)
 
@@ -73,17 +73,17 @@ module _ (M : Plain) where
   unfoldable pub callOf : Rack State → Call → CallResult State
   callOf r c = answerOf r (parse grammar (r .setup) c)
 
-  -- the rack that the call returned or, refusing, left
+  -- the rack after a call: the one it returned or, if it was refused, the one before
   abbrev pub after : Rack State → CallResult State → Rack State
   after r (refused n) = r
   after r (done q used t) = q
 
-  -- a list of calls on the rack r, handed on from call to call
+  -- a list of calls on the rack r; each call works on the rack that the one before it left
   abbrev pub runFrom : Rack State → List Call → Rack State
   runFrom r [] = r
   runFrom r (c ∷ cs) = runFrom (after r (callOf r c)) cs
 
-  -- 01's fresh rack
+  -- the fresh rack
   abbrev pub freshRack : Setup → Rack State
   freshRack u = record { setup = u; slots = tabulate (length (u .models)) (λ a. fresh (modelAt u a)); wire = freshWire }
 
@@ -94,11 +94,12 @@ module _ (M : Plain) where
   abbrev pub slot : Rack State → ℕ → State
   slot r a = stateAt (r .slots) a
 
-  -- the plain supply of a model, from fresh, on a list of entries
+  -- a fresh plain supply of a model after a list of entries
   abbrev pub plain : ℕ → List Entry → State
   plain m es = foldl (step m) (fresh m) es
 
-  -- the plain supplies at all addresses, acting on each other by `next`, from fresh, on a list of deliveries; where slots come to act
-  -- on each other, what a group does has to be stated from the stages of a supply and shown equal to this
+  -- The plain supplies at all addresses, acting on each other as `next` says, from fresh, after a list of deliveries.
+  -- If slots ever act on each other, what a group does must be stated from the steps of a supply and proved equal to
+  -- this.
   abbrev pub together : Setup → List Delivery → ℕ → State
   together u ds = foldl (next u) (λ a. fresh (modelAt u a)) ds

@@ -1,6 +1,7 @@
--- An address's share of a list of calls, from the calls and the setup alone: the paper read a second time, in passes over the
--- one stream of all accepted fields. How bytes become lines and who is selected is read anew here, and not by the rack's own way
--- in Wire.antt; which calls are accepted and what class a line is come from the grammar, as for the rack.
+-- An address's share of a list of calls, from the calls and the setup alone: a second reading of the paper, in passes
+-- over the single stream of all accepted fields. How bytes become lines and which slot is selected is defined anew
+-- here, without the definitions of the rack in Wire.antt. Which calls are accepted and what class a line has come from
+-- the grammar, as they do for the rack.
 use mathlib.Core.Bool.{Bool, true, false}
 use mathlib.Core.List.{List, [], _∷_, _++_, foldl}
 use Prim.Native.Nat.{ℕ, _-_}
@@ -11,12 +12,13 @@ use Rattle.wire.specs.Machine.{given, flat, keep}
 use Rattle.wire.specs.Wire.{Entry, line, Delivery, one, all, say, Class, select, faulty, global, other, Item, byte, event, Parsed, refuse, accept, Grammar, fitted, Call, nobody, parse}
 use Rattle.wire.specs.declared.Setup.{Setup}
 
--- what an accepted call adds to the stream; a refused one adds nothing
+-- what an accepted call adds to the stream; a refused call adds nothing
 abbrev pub items : Parsed → List Item
 items (refuse n) = []
 items (accept used is) = is
 
--- the one stream of a list of calls: serial bytes of accepted fields, the other accepted fields at their places among them
+-- the single stream of a list of calls: the serial bytes of accepted fields, with the other accepted fields in their
+-- places among them
 abbrev pub stream : Grammar → Setup → List Call → List Item
 stream γ u calls = flat (λ c. items (parse γ u c)) calls
 
@@ -25,8 +27,8 @@ pub record TypedLine : Type 0 where
   pub kept : List ℕ
   pub spoiled : Bool
 
--- one byte more of a line, not its CR: LF does nothing, a backspace takes the last kept character back, and past 64 kept
--- characters a byte is lost and the line spoiled
+-- one more byte of a line, other than its CR: LF does nothing, a backspace removes the last kept character, and once 64
+-- characters are kept a further byte is lost and spoils the line
 abbrev pub typing : TypedLine → ℕ → TypedLine
 typing t b =
     pick (eqb b 10) t
@@ -38,27 +40,28 @@ typing t b =
 unfoldable pub typed : List ℕ → TypedLine
 typed bytes = foldl typing (record { kept = []; spoiled = false }) bytes
 
--- a piece of the stream: a line at its CR, or a field of another tag with its address
+-- one arrival in the stream: a line at its CR, or a field of another tag with its address
 pub data Arrival : Type 0 where
   ended : TypedLine → Arrival
   came : ℕ → Entry → Arrival
 
--- FIRST PASS: the stream is cut into lines and other fields; `bytes` have come since the last CR
+-- FIRST PASS: the stream is divided into lines and other fields; `bytes` are those since the last CR
 abbrev pub arrivals : List ℕ → List Item → List Arrival
 arrivals bytes [] = []
 arrivals bytes (event a e ∷ is) = came a e ∷ arrivals bytes is
 arrivals bytes (byte b ∷ is) = pick (eqb b 13) (ended (typed bytes) ∷ arrivals [] is) (arrivals (bytes ++ b ∷ []) is)
 
 module _ (u : Setup) where
-  -- who is selected after a line: ADR selects the slot that it names, nobody where that is empty; no other line selects
+  -- which slot is selected after a line: ADR selects the slot that it names, or nobody if that slot is empty; no other
+  -- line changes the selection
   abbrev pub selected : ℕ → Class → ℕ
   selected sel (select a t) = pick (fitted u a) a nobody
   selected sel (faulty t) = sel
   selected sel global = sel
   selected sel other = sel
 
-  -- to whom a line goes: ADR, in error too, and an ill-formed global to nobody; a well-formed global to all; any other line to
-  -- the slot selected, if there is one
+  -- who takes a line: nobody takes an ADR, even one in error, or an ill-formed global; every fitted slot takes a
+  -- well-formed global; the selected slot, if there is one, takes any other line
   abbrev pub handed : ℕ → Entry → Class → List Delivery
   handed sel e (select a t) = []
   handed sel e (faulty t) = []
@@ -66,7 +69,7 @@ module _ (u : Setup) where
   handed sel e other = given (fitted u sel) (one sel e)
 
 module _ (γ : Grammar) (u : Setup) where
-  -- SECOND PASS: who is selected at each CR, and to whom the line goes
+  -- SECOND PASS: which slot is selected at each CR, and who takes the line
   abbrev pub routes : ℕ → List Arrival → List Delivery
   routes sel [] = []
   routes sel (came a e ∷ ps) = one a e ∷ routes sel ps
@@ -74,20 +77,20 @@ module _ (γ : Grammar) (u : Setup) where
       let c = γ .classOf (t .kept) (t .spoiled) in
       handed u sel (line (t .kept) (t .spoiled)) c ++ routes (selected u sel c) ps
 
-  -- what a list of calls brings to the supplies, in order; a fresh rack selects nobody
+  -- what a list of calls brings to the supplies, in order; in a fresh rack nobody is selected
   unfoldable pub brought : List Call → List Delivery
   brought calls = routes nobody (arrivals [] (stream γ u calls))
 
--- what an address takes of it: its own entries, and what goes to every fitted slot
+-- what one address takes of that: its own entries, and whatever goes to every fitted slot
 abbrev pub forSlot : Setup → ℕ → Delivery → List Entry
 forSlot u a (one b e) = given (eqb a b) e
 forSlot u a (all e) = given (fitted u a) e
 forSlot u a (say t) = []
 
--- THIRD PASS: 01's share of an address
+-- THIRD PASS: the share of an address
 abbrev pub shareOf : Grammar → Setup → List Call → ℕ → List Entry
 shareOf γ u calls a = flat (forSlot u a) (brought γ u calls)
 
--- the joint share of a group: the deliveries that touch it, each line for all supplies being one of them
+-- the joint share of a group: the deliveries that touch it; a line for all supplies is a single delivery
 abbrev pub jointShare : Grammar → Setup → List Call → (Delivery → Bool) → List Delivery
 jointShare γ u calls touches = keep touches (brought γ u calls)

@@ -10,27 +10,28 @@ use Rattle.base.specs.Choice.{pick}
 use Rattle.wire.specs.Machine.{given}
 use Rattle.wire.specs.declared.Setup.{Setup}
 
--- the model at an address; 255 where the slot is empty, or past the last one
+-- the model at an address; 255 if the slot is empty or there is no such slot
 abbrev pub modelAt : Setup → ℕ → ℕ
 modelAt u a = getD (u .models) a 255
 
--- is there a supply at the address
+-- whether there is a supply at the address
 abbrev pub fitted : Setup → ℕ → Bool
 fitted u a = not (eqb (modelAt u a) 255)
 
--- an entry (01's term): a field of tags 2 to 5, or a line as it stood at its CR with its spoiled flag
+-- an entry: a field of tags 2 to 5, or a line as it stood at its CR, with its spoiled flag
 pub data Entry : Type 0 where
   field : ℕ → List ℕ → Entry
   line : List ℕ → Bool → Entry
 
--- what the line hands out: an entry to one slot, an entry to every fitted slot, or a reply of the line's own
+-- what the line hands out: an entry for one slot, an entry for every fitted slot, or a reply of the line's own
 pub data Delivery : Type 0 where
   one : ℕ → Entry → Delivery
   all : Entry → Delivery
   say : List ℕ → Delivery
 
--- what a line is by its characters: a well-formed ADR, with the reply that it draws from a fitted slot; one that no supply
--- takes (an ADR in error, with its reply, or an ill-formed global, with none); a well-formed global; any other line
+-- what a line is, judged by its characters: a well-formed ADR, with the reply that it draws from a fitted slot; a line
+-- that no supply takes (an ADR in error, with its reply, or an ill-formed global, which draws none); a well-formed
+-- global; any other line
 pub data Class : Type 0 where
   select : ℕ → List ℕ → Class
   faulty : List ℕ → Class
@@ -47,13 +48,13 @@ pub data Item : Type 0 where
   byte : ℕ → Item
   event : ℕ → Entry → Item
 
--- what a call comes to: the number of a refusal, or how many bytes are used and what they add to the stream
+-- the outcome of reading a call: the number of a refusal, or how many bytes are used and what they add to the stream
 pub data Parsed : Type 0 where
   refuse : ℕ → Parsed
   accept : ℕ → List Item → Parsed
 
--- what is left open here: the class of a line (its kept characters, whether it is spoiled); the least reply buffer; and how the
--- bytes of a call are read, given which addresses are fitted (refusals 2 to 7 in their order)
+-- what is left open here: the class of a line, given its kept characters and whether it is spoiled; the shortest reply
+-- buffer; and how the bytes of a call are read, given which addresses are fitted (refusals 2 to 7 in their order)
 pub record Grammar : Type 0 where
   pub classOf : List ℕ → Bool → Class
   pub least : ℕ
@@ -63,7 +64,7 @@ pub record Grammar : Type 0 where
 abbrev pub nobody : ℕ
 nobody = 31
 
--- the line between two bytes: the characters kept, whether it is spoiled, and who is selected
+-- the line between two bytes: the characters kept, whether it is spoiled, and which slot is selected
 pub record Wire : Type 0 where
   pub kept : List ℕ
   pub spoiled : Bool
@@ -78,11 +79,11 @@ pub record Sent : Type 0 where
   pub wire : Wire
   pub sent : List Delivery
 
--- nothing handed out
+-- nothing is handed out
 abbrev pub quiet : Wire → Sent
 quiet w = record { wire = w; sent = [] }
 
--- a line ended: no character kept any more, this address selected, and what is handed out
+-- a line has ended: no characters are kept, this address is selected, and these deliveries are handed out
 abbrev pub ending : ℕ → List Delivery → Sent
 ending sel ds = record { wire = record { kept = []; spoiled = false; sel = sel }; sent = ds }
 
@@ -90,16 +91,17 @@ ending sel ds = record { wire = record { kept = []; spoiled = false; sel = sel }
 abbrev pub followed : Sent → Sent → Sent
 followed s t = record { wire = t .wire; sent = s .sent ++ t .sent }
 
--- a line at its CR: ADR selects a fitted slot, which replies, and an empty one selects nobody, silently; what no supply takes
--- draws its reply if a slot is selected; a global goes to every fitted slot; any other line to the slot selected, or it vanishes
+-- a line at its CR: ADR selects a fitted slot, which replies; if the slot is empty, nobody is selected and there is no
+-- reply. A line that no supply takes draws its reply if a slot is selected. A global goes to every fitted slot. Any
+-- other line goes to the selected slot, or is lost if there is none.
 abbrev pub byClass : Setup → Wire → Class → Sent
 byClass u w (select a t) = ending (pick (fitted u a) a nobody) (given (fitted u a) (say t))
 byClass u w (faulty t) = ending (w .sel) (given (fitted u (w .sel)) (say t))
 byClass u w global = ending (w .sel) (all (line (w .kept) (w .spoiled)) ∷ [])
 byClass u w other = ending (w .sel) (given (fitted u (w .sel)) (one (w .sel) (line (w .kept) (w .spoiled))))
 
--- a serial byte that ends no line: LF (10) does nothing, backspace (8) takes the last kept character back; past 64 kept
--- characters a byte is lost and the line spoiled
+-- a serial byte other than CR: LF (10) does nothing, a backspace (8) removes the last kept character, and once 64
+-- characters are kept a further byte is lost and spoils the line
 unfoldable pub charOn : Wire → ℕ → Wire
 charOn w b =
     pick (eqb b 10) w
@@ -112,7 +114,7 @@ module _ (γ : Grammar) (u : Setup) where
   unfoldable pub byteOn : Wire → ℕ → Sent
   byteOn w b = pick (eqb b 13) (byClass u w (γ .classOf (w .kept) (w .spoiled))) (quiet (charOn w b))
 
-  -- an item of the stream: a field of another tag leaves the line as it is
+  -- an item of the stream; a field of another tag leaves the line as it is
   abbrev pub itemOn : Wire → Item → Sent
   itemOn w (byte b) = byteOn w b
   itemOn w (event a e) = record { wire = w; sent = one a e ∷ [] }
@@ -122,11 +124,12 @@ module _ (γ : Grammar) (u : Setup) where
   scan w [] = quiet w
   scan w (i ∷ is) = followed (itemOn w i) (scan (itemOn w i .wire) is)
 
-  -- a call, judged: the reply buffer first, then the bytes
+  -- a call is judged by its reply buffer first, then by its bytes
   unfoldable pub parse : Call → Parsed
   parse c = pick (ltb (c .room) (γ .least)) (refuse 1) (γ .read (fitted u) (c .bytes))
 
--- what holds of the line of every rack that calls lead to: at most 64 characters kept, nobody or a fitted slot selected
+-- what holds for the line of every rack reached by calls: at most 64 characters are kept, and nobody or a fitted slot
+-- is selected
 pub record LawfulWire (u : Setup) (w : Wire) : Type 0 where
   pub short : length (w .kept) ≤ 64
   pub chosen : (w .sel ≡ nobody) ⊎ (fitted u (w .sel) ≡ true)
