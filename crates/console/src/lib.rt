@@ -91,7 +91,8 @@ fn again_after(got: isize) -> bool {
 
 // The outcome of the last read.
 fn got_by(got: isize, buf: &[u8]) -> Got
-    ensures { λ g. ⌜ (g .count ≡ clamped got (length (now (buf .entry)))) × (ltZ got (pos 0) ≡ true → g .failed ≡ true) ⌝ }
+    ensures { λ g. ⌜ (g .count ≡ clamped got (length (now (buf .entry))))
+        × (ltZ got (pos 0) ≡ true → g .failed ≡ true) ⌝ }
     ensures { λ g. ⌜ (g .count ≤ length (now (buf .entry))) × (g .failed ≡ true → g .count ≡ 0) ⌝ }
 {
     let count = io::count(got, buf);
@@ -153,7 +154,8 @@ fn write_all(fd: i32, bytes: &[u8]) -> bool {
 
 // The line that reports a fault: the stream, and errno as a number.
 fn put_fault(line: &mut [u8], stream: &[u8], error: u64) -> usize
-    ensures { λ n. ⌜ Put (now (line .entry)) 0 (now (stream .entry) ++ codes ": error " ++ figure 0 error ++ 10 ∷ []) n (now (line .exit)) ⌝ }
+    ensures { λ n. ⌜ Put (now (line .entry)) 0
+        (now (stream .entry) ++ codes ": error " ++ figure 0 error ++ 10 ∷ []) n (now (line .exit)) ⌝ }
 {
     let a = base::put_text(line, 0, stream);
     let b = base::put_text(line, a, b": error ");
@@ -181,7 +183,8 @@ fn say_fault_out() {
 // Reads after the kept bytes; if no byte comes, the count stays as it was.
 pub fn take_block(room: &mut [u8], kept: usize) -> Got
     requires { ⌜ kept < length (now room) ⌝ }
-    ensures { λ g. ⌜ (take kept (now (room .exit)) ≡ take kept (now (room .entry))) × (kept ≤ g .count) × (g .count ≤ length (now (room .exit))) ⌝ }
+    ensures { λ g. ⌜ (take kept (now (room .exit)) ≡ take kept (now (room .entry)))
+        × (kept ≤ g .count) × (g .count ≤ length (now (room .exit))) ⌝ }
     ensures { λ g. ⌜ (g .failed ≡ true → g .count ≡ kept) ⌝ }
 {
     let got = read_some(&mut room[kept..]);

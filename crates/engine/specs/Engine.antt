@@ -34,27 +34,35 @@ ran v used said code = record { rack = v; used = used; said = said; code = code 
 
 -- the next field after those worked: if it is refused, they end there; otherwise they go on, unless what they have said
 -- so far stops them
-abbrev pub afterField : (wire.Rack Supply → ℕ → List ℕ → Ran) → (ℕ → Bool) → wire.Rack Supply → ℕ → List ℕ → wire.CallResult Supply → Ran
+abbrev pub afterField :
+    (wire.Rack Supply → ℕ → List ℕ → Ran) → (ℕ → Bool)
+    → wire.Rack Supply → ℕ → List ℕ → wire.CallResult Supply → Ran
 afterField go stop v used said (refused n) = ran v used said n
-afterField go stop v used said (done q k t) = pick (stop (length (said ++ t))) (ran q (used + k) (said ++ t) 0) (go q (used + k) (said ++ t))
+afterField go stop v used said (done q k t) =
+    pick (stop (length (said ++ t))) (ran q (used + k) (said ++ t) 0) (go q (used + k) (said ++ t))
 
 -- at most n further fields of the bytes s, after fields that used `used` of the bytes and said `said`
 abbrev pub fieldsFrom : ℕ → (ℕ → Bool) → List ℕ → wire.Rack Supply → ℕ → List ℕ → Ran
 fieldsFrom zero stop s v used said = ran v used said 0
-fieldsFrom (suc n) stop s v used said = afterField (fieldsFrom n stop s) stop v used said (callOf plainSupply v (fieldAt (drop used s)))
+fieldsFrom (suc n) stop s v used said =
+    afterField (fieldsFrom n stop s) stop v used said (callOf plainSupply v (fieldAt (drop used s)))
 
 -- FIELDS IN TURN on the rack v: each has at least one byte, so there are no more fields than bytes
 abbrev pub fieldsOn : (ℕ → Bool) → wire.Rack Supply → List ℕ → Ran
 fieldsOn stop v s = fieldsFrom (suc (length s)) stop s v 0 []
 
 -- THE CALLS to which fields in turn amount: one for each accepted field
-abbrev pub callsAfter : (wire.Rack Supply → ℕ → List ℕ → List Call) → (ℕ → Bool) → List ℕ → ℕ → List ℕ → wire.CallResult Supply → List Call
+abbrev pub callsAfter :
+    (wire.Rack Supply → ℕ → List ℕ → List Call) → (ℕ → Bool)
+    → List ℕ → ℕ → List ℕ → wire.CallResult Supply → List Call
 callsAfter go stop s used said (refused n) = []
-callsAfter go stop s used said (done q k t) = fieldAt (drop used s) ∷ pick (stop (length (said ++ t))) [] (go q (used + k) (said ++ t))
+callsAfter go stop s used said (done q k t) =
+    fieldAt (drop used s) ∷ pick (stop (length (said ++ t))) [] (go q (used + k) (said ++ t))
 
 abbrev pub callsFrom : ℕ → (ℕ → Bool) → List ℕ → wire.Rack Supply → ℕ → List ℕ → List Call
 callsFrom zero stop s v used said = []
-callsFrom (suc n) stop s v used said = callsAfter (callsFrom n stop s) stop s used said (callOf plainSupply v (fieldAt (drop used s)))
+callsFrom (suc n) stop s v used said =
+    callsAfter (callsFrom n stop s) stop s used said (callOf plainSupply v (fieldAt (drop used s)))
 
 abbrev pub callsOn : (ℕ → Bool) → wire.Rack Supply → List ℕ → List Call
 callsOn stop v s = callsFrom (suc (length s)) stop s v 0 []
@@ -81,4 +89,6 @@ pub record WorkDoes (r : Rack) (s b : List ℕ) (full ending : ℕ) (w : Worked)
 
 -- for any rack: if the first field is refused, everything stays as it was
 abbrev pub RefusedFirst : Rack → List ℕ → List ℕ → Worked → List ℕ → Type 0
-RefusedFirst r s b w b′ = (n : ℕ) → readField (fitted (r .setup)) s ≡ refuse n → (w ≡ record { rack = r; used = 0; next = 0; code = n }) × (b′ ≡ b)
+RefusedFirst r s b w b′ =
+    (n : ℕ) → readField (fitted (r .setup)) s ≡ refuse n
+    → (w ≡ record { rack = r; used = 0; next = 0; code = n }) × (b′ ≡ b)

@@ -21,7 +21,8 @@ pub struct Worked {
 // at least one field, so with `full` at 0 it works exactly one. The byte `ending` ends each line of a reply.
 pub fn work(r: Rack, s: &[u8], out: &mut [u8], full: usize, ending: u8) -> Worked
     ensures refuses { λ w. ⌜ RefusedFirst r (now (s .entry)) (now (out .entry)) w (now (out .exit)) ⌝ }
-    ensures works { λ w. ⌜ (Able r → full + leastReply ≤ length (now (out .entry)) → WorkDoes r (now (s .entry)) (now (out .entry)) full ending w (now (out .exit))) ⌝ }
+    ensures works { λ w. ⌜ (Able r → full + leastReply ≤ length (now (out .entry))
+        → WorkDoes r (now (s .entry)) (now (out .entry)) full ending w (now (out .exit))) ⌝ }
 {
     let mut rack = r;
     let line = r.line;

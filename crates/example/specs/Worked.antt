@@ -161,6 +161,10 @@ pub record WorkedOut : Type 0 where
   -- up to the release slot 6 is off, whatever comes meanwhile, and the neighbour is on, with the PV that the global
   -- gave it
   pub stays-off : (r : Rack) → Run (setupOf fittingList) (tripping ++ tripped) r → onOf (supplyAt r 6) ≡ false
-  pub neighbour-runs : (r : Rack) → Run (setupOf fittingList) (tripping ++ tripped) r → (onOf (supplyAt r 9) ≡ true) × (supplyAt r 9 .pv ≡ 53000)
+  pub neighbour-runs :
+      (r : Rack) → Run (setupOf fittingList) (tripping ++ tripped) r
+      → (onOf (supplyAt r 9) ≡ true) × (supplyAt r 9 .pv ≡ 53000)
   -- the chemist alone, in another rack, ends in the same state
-  pub repeated : (r r₂ : Rack) → Run (setupOf fittingList) calls r → Run (setupOf listAlone) alone r₂ → supplyAt r 6 ≡ supplyAt r₂ 6
+  pub repeated :
+      (r r₂ : Rack) → Run (setupOf fittingList) calls r → Run (setupOf listAlone) alone r₂
+      → supplyAt r 6 ≡ supplyAt r₂ 6

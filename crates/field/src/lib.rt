@@ -58,7 +58,8 @@ fn length_fits(tag: u8, n: usize) -> bool
 
 // The header of the first field of the lent bytes.
 pub fn read_header(b: &[u8]) -> Header
-    ensures { λ r. ⌜ (r .code ≡ headerCode (now (b .entry))) × (r .tag ≡ tagOf (now (b .entry))) × (r .length ≡ lengthOf (now (b .entry))) ⌝ }
+    ensures { λ r. ⌜ (r .code ≡ headerCode (now (b .entry))) × (r .tag ≡ tagOf (now (b .entry)))
+        × (r .length ≡ lengthOf (now (b .entry))) ⌝ }
 {
     let tag = byte_at(b, 0);
     let length = pair_at(b, 1) as usize;

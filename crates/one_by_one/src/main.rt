@@ -33,7 +33,8 @@ struct Tried {
 
 // Whether the buffer is as it was before the call, from an index on.
 fn unwritten(reply: &[u8], from: usize) -> bool
-    ensures { λ r. ⌜ (r ≡ true → Unwritten (now (reply .entry)) from) × (Unwritten (now (reply .entry)) from → r ≡ true) ⌝ }
+    ensures { λ r. ⌜ (r ≡ true → Unwritten (now (reply .entry)) from)
+        × (Unwritten (now (reply .entry)) from → r ≡ true) ⌝ }
 {
     let mut i = from;
     while i < reply.len() {

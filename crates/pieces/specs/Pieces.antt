@@ -46,7 +46,9 @@ pub record CharsTaken (l : Line) (p : List ℕ) (n : ℕ) (r : Line) : Type 0 wh
 -- the same in the code, whichever slot is selected
 pub record CharsDo (kept : List ℕ) (count : ℕ) (spoiled : Bool) (p kept′ : List ℕ) (r : Advance) : Type 0 where
   pub same : length kept′ ≡ length kept
-  pub chars : (selected : ℕ) → CharsTaken (lineOf kept count spoiled selected) p (r .next) (lineOf kept′ (r .count) (r .spoiled) selected)
+  pub chars :
+      (selected : ℕ)
+      → CharsTaken (lineOf kept count spoiled selected) p (r .next) (lineOf kept′ (r .count) (r .spoiled) selected)
 
 -- skips an LF at index i, and nothing else
 abbrev pub FeedDoes : List ℕ → ℕ → ℕ → Type 0
@@ -89,11 +91,13 @@ slotsAfter u p ss k = pick (p .all) (eachTo (orderedAt u (p .order)) 31 ss) (set
 -- what a piece does in any rack whose slot k is the supply x, where k is the slot of address a if there is a supply
 abbrev pub Does : Setup → Line → Supply → ℕ → List Item → ℕ → After → List ℕ → ℕ → List ℕ → Type 0
 Does u l x a is n p b at b′ =
-    (ss : List Supply) (k : ℕ) → x ≡ getD ss k (fresh 255) → (fitted u a ≡ true → k ≡ a) → length ss ≤ 31 → length (l .kept) ≡ 64 → Short l
+    (ss : List Supply) (k : ℕ) → x ≡ getD ss k (fresh 255) → (fitted u a ≡ true → k ≡ a)
+    → length ss ≤ 31 → length (l .kept) ≡ 64 → Short l
     → Leaves (rackIs ss l u) is n (rackIs (slotsAfter u p ss k) (p .line) u) b at (p .next) b′
 
 -- serial bytes after `head` bytes, up to the end of a line, or all of them if no line ends
-pub record LineDoes (u : Setup) (l : Line) (x : Supply) (p : List ℕ) (head : ℕ) (r : After) (b : List ℕ) (at : ℕ) (b′ : List ℕ) : Type 0 where
+pub record LineDoes (u : Setup) (l : Line) (x : Supply) (p : List ℕ) (head : ℕ)
+    (r : After) (b : List ℕ) (at : ℕ) (b′ : List ℕ) : Type 0 where
   pub taken : ℕ
   pub used-is : r .used ≡ head + taken
   pub left-is : taken + r .left ≡ length p
@@ -122,14 +126,16 @@ itemsAt u s left = pick (ltb 0 left) (accept left (map byte (take left s))) (rea
 abbrev pub most : ℕ → ℕ
 most left = pick (ltb 0 left) left 16
 
-pub record PieceRefused (u : Setup) (l : Line) (x : Supply) (s : List ℕ) (left : ℕ) (r : After) (b : List ℕ) (at : ℕ) (b′ : List ℕ) : Type 0 where
+pub record PieceRefused (u : Setup) (l : Line) (x : Supply) (s : List ℕ) (left : ℕ)
+    (r : After) (b : List ℕ) (at : ℕ) (b′ : List ℕ) : Type 0 where
   pub reads : itemsAt u s left ≡ refuse (r .code)
   pub some : r .code ≡ 0 → ⊥
   pub is : r ≡ refusedAs l x at (r .code)
   pub buffer-is : b′ ≡ b
 
 -- the piece takes the first items of what the bytes bring, and leaves the rest
-pub record PieceTaken (u : Setup) (l : Line) (x : Supply) (a : ℕ) (s : List ℕ) (left : ℕ) (r : After) (b : List ℕ) (at : ℕ) (b′ : List ℕ) : Type 0 where
+pub record PieceTaken (u : Setup) (l : Line) (x : Supply) (a : ℕ) (s : List ℕ) (left : ℕ)
+    (r : After) (b : List ℕ) (at : ℕ) (b′ : List ℕ) : Type 0 where
   pub items : List Item
   pub taken : ℕ
   pub reads : itemsAt u s left ≡ accept (r .used + r .left) (items ++ map byte (take (r .left) (drop (r .used) s)))
@@ -160,7 +166,10 @@ sampleAs u l x at s =
 
 -- and so is every other field that is not serial
 abbrev pub eventAs : Line → ℕ → Evented → After
-eventAs l at e = record { line = l; supply = e .supply; next = at; used = e .used; left = 0; code = e .code; all = false; order = Cls }
+eventAs l at e =
+    record { line = l; supply = e .supply; next = at; used = e .used; left = 0; code = e .code; all = false; order = Cls }
 
 abbrev pub EventDoes : Setup → Supply → List ℕ → Evented → Type 0
-EventDoes u x s e = (left : ℕ) → isSerial s left ≡ false → (l : Line) (b : List ℕ) (at : ℕ) → PieceDoes u l x (getD s 3 0) s left (eventAs l at e) b at b
+EventDoes u x s e =
+    (left : ℕ) → isSerial s left ≡ false → (l : Line) (b : List ℕ) (at : ℕ)
+    → PieceDoes u l x (getD s 3 0) s left (eventAs l at e) b at b

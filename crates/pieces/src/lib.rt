@@ -141,7 +141,9 @@ fn take_line(
     at: usize,
 ) -> Piece
     requires { ⌜ head ≤ 3 ⌝ }
-    ensures { λ r. ⌜ (length (now (kept .exit)) ≡ length (now (kept .entry))) × LineDoes u (lineOf (now (kept .entry)) count spoiled selected) s (now (p .entry)) head (afterPiece (now (kept .exit)) r) (now (buf .entry)) at (now (buf .exit)) ⌝ }
+    ensures { λ r. ⌜ (length (now (kept .exit)) ≡ length (now (kept .entry)))
+        × LineDoes u (lineOf (now (kept .entry)) count spoiled selected) s (now (p .entry)) head
+        (afterPiece (now (kept .exit)) r) (now (buf .entry)) at (now (buf .exit)) ⌝ }
 {
     let t = take_chars(kept, count, spoiled, p);
     let n = t.next;
@@ -226,7 +228,10 @@ pub fn take_serial(
     buf: &mut [u8],
     at: usize,
 ) -> Piece
-    ensures { λ r. ⌜ (length (now (kept .exit)) ≡ length (now (kept .entry))) × (isSerial (now (b .entry)) left ≡ true → left ≤ length (now (b .entry)) → PieceDoes u (lineOf (now (kept .entry)) count spoiled selected) s selected (now (b .entry)) left (afterPiece (now (kept .exit)) r) (now (buf .entry)) at (now (buf .exit))) ⌝ }
+    ensures { λ r. ⌜ (length (now (kept .exit)) ≡ length (now (kept .entry)))
+        × (isSerial (now (b .entry)) left ≡ true → left ≤ length (now (b .entry))
+        → PieceDoes u (lineOf (now (kept .entry)) count spoiled selected) s selected (now (b .entry)) left
+        (afterPiece (now (kept .exit)) r) (now (buf .entry)) at (now (buf .exit))) ⌝ }
 {
     if 0 < left {
         let part = base::part_to(b, left);

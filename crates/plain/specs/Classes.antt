@@ -77,6 +77,10 @@ pub record Classes (kept : List ℕ) (spoiled : Bool) : Type 0 where
   pub wrong-checksum-other : hasChecksum kept ≡ true → rightChecksum kept ≡ false → classOf kept spoiled ≡ other
   -- an ADR selects an address of the rack; its reply is the one that a supply's reply function gives, with its checksum
   pub select-inside : (n : ℕ) (t : List ℕ) → classOf kept spoiled ≡ select n t → n ≤ 30
-  pub select-reply : (n : ℕ) (t : List ℕ) → classOf kept spoiled ≡ select n t → (m : ℕ) (s : Supply) → t ≡ repliedTo m s (heardOf kept spoiled .asks) (heardOf kept spoiled .checksummed)
+  pub select-reply :
+      (n : ℕ) (t : List ℕ) → classOf kept spoiled ≡ select n t → (m : ℕ) (s : Supply)
+      → t ≡ repliedTo m s (heardOf kept spoiled .asks) (heardOf kept spoiled .checksummed)
   -- an ADR in error draws its error code, with its checksum; a global in error draws nothing
-  pub faulty-reply : (t : List ℕ) → classOf kept spoiled ≡ faulty t → (m : ℕ) (s : Supply) → t ≡ repliedTo m s (heardOf kept spoiled .asks) (heardOf kept spoiled .checksummed)
+  pub faulty-reply :
+      (t : List ℕ) → classOf kept spoiled ≡ faulty t → (m : ℕ) (s : Supply)
+      → t ≡ repliedTo m s (heardOf kept spoiled .asks) (heardOf kept spoiled .checksummed)

@@ -48,7 +48,8 @@ abbrev pub grammar : Grammar
 grammar = record { classOf = classOf; least = leastReply; read = readField }
 
 abbrev pub plainSupply : Plain
-plainSupply = record { State = Supply; step = stepOf; reply = replyTo; fresh = fresh; grammar = grammar; closing = λ u ss ts. [] }
+plainSupply =
+    record { State = Supply; step = stepOf; reply = replyTo; fresh = fresh; grammar = grammar; closing = λ u ss ts. [] }
 
 -- whether what a line asks releases the trip, if a supply in this state takes it; GOUT 1 and GRST count as OUT 1 and
 -- RST

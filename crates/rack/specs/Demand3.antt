@@ -77,7 +77,8 @@ pub record AtAddress (u : Setup) (calls : List Call) (a : ℕ) : Type 0 where
   -- the voltage margins, and the limits of the model, hold after every prefix of the list
   pub margins : (past rest : List Call) (r : Rack) → calls ≡ past ++ rest → Run u past r
       → (20 * supplyAt r a .uvl ≤ 19 * supplyAt r a .pv) × (21 * supplyAt r a .pv ≤ 20 * supplyAt r a .ovp)
-  pub limits : (past rest : List Call) (r : Rack) → calls ≡ past ++ rest → Run u past r → Lawful (modelAt u a) (supplyAt r a)
+  pub limits : (past rest : List Call) (r : Rack) → calls ≡ past ++ rest → Run u past r
+      → Lawful (modelAt u a) (supplyAt r a)
   -- and so does coherence of the rest of the state: MODE at most 2, only listed bits in LINES, no FOLD trip unless
   -- ARMED
   pub coherent : (past rest : List Call) (r : Rack) → calls ≡ past ++ rest → Run u past r → Coherent (supplyAt r a)
@@ -90,7 +91,8 @@ pub record AtAddress (u : Setup) (calls : List Call) (a : ℕ) : Type 0 where
       → TrippedBy plainSupply trips (modelAt u a) k past
       → onOf (plain plainSupply (modelAt u a) past) ≡ false
   -- every release named does clear its trip
-  pub freed : (k : Trip) (past : List Entry) (e : Entry) (rest : List Entry) → shareOf grammar u calls a ≡ past ++ e ∷ rest
+  pub freed : (k : Trip) (past : List Entry) (e : Entry) (rest : List Entry)
+      → shareOf grammar u calls a ≡ past ++ e ∷ rest
       → releasesOf (modelAt u a) k (plain plainSupply (modelAt u a) past) e ≡ true
       → isSet k (stepOf (modelAt u a) (plain plainSupply (modelAt u a) past) e) ≡ false
 

@@ -29,4 +29,6 @@ pub record CharTaken (l : Line) (b : ℕ) (r : Line) : Type 0 where
 -- such a byte in the code, which keeps the characters in an array of 64, whichever slot is selected
 pub record CharDoes (kept : List ℕ) (count : ℕ) (spoiled : Bool) (b : ℕ) (kept′ : List ℕ) (r : Counted) : Type 0 where
   pub same : length kept′ ≡ length kept
-  pub typed : length kept ≡ 64 → (selected : ℕ) → Short (lineOf kept count spoiled selected) → CharTaken (lineOf kept count spoiled selected) b (lineOf kept′ (r .count) (r .spoiled) selected)
+  pub typed :
+      length kept ≡ 64 → (selected : ℕ) → Short (lineOf kept count spoiled selected)
+      → CharTaken (lineOf kept count spoiled selected) b (lineOf kept′ (r .count) (r .spoiled) selected)

@@ -52,16 +52,21 @@ clearedTo l selected = record { kept = l .kept; count = 0; spoiled = false; sele
 abbrev pub EndsByClass : Setup → Line → Supply → Class → Ended → List ℕ → ℕ → List ℕ → Type 0
 EndsByClass u l s c e b at b′ =
     (ss : List Supply) (k : ℕ) → s ≡ getD ss k (fresh 255) → (fitted u (l .selected) ≡ true → k ≡ l .selected)
-    → Moves (rackIs ss l u) (byClass u (wireOf l) c) (rackIs (set ss k (e .supply)) (clearedTo l (e .selected)) u) b at (e .next) b′
+    → Moves (rackIs ss l u) (byClass u (wireOf l) c) (rackIs (set ss k (e .supply)) (clearedTo l (e .selected)) u)
+    b at (e .next) b′
 
 -- what a line for one supply leaves and says, if the line asks for the act a
 abbrev pub Asked : Setup → Line → Supply → Act → Bool → Ended → List ℕ → ℕ → List ℕ → Type 0
-Asked u l s a checksummed e b at b′ = heardOf (take (l .count) (l .kept)) (l .spoiled) ≡ heardAs (One a) checksummed → EndsByClass u l s other e b at b′
+Asked u l s a checksummed e b at b′ =
+    heardOf (take (l .count) (l .kept)) (l .spoiled) ≡ heardAs (One a) checksummed
+    → EndsByClass u l s other e b at b′
 
 -- what a line for all leaves and says, in any rack: every fitted supply takes the order
 abbrev pub EndsAll : Setup → Line → Class → Ended → List ℕ → ℕ → List ℕ → Type 0
 EndsAll u l c e b at b′ =
-    (ss : List Supply) → length ss ≤ 31 → Moves (rackIs ss l u) (byClass u (wireOf l) c) (rackIs (eachTo (orderedAt u (e .order)) 31 ss) (clearedTo l (e .selected)) u) b at (e .next) b′
+    (ss : List Supply) → length ss ≤ 31
+    → Moves (rackIs ss l u) (byClass u (wireOf l) c)
+    (rackIs (eachTo (orderedAt u (e .order)) 31 ss) (clearedTo l (e .selected)) u) b at (e .next) b′
 
 -- a line at its CR: what its class leaves and says, whether it is for one supply or for all
 abbrev pub EndsLine : Setup → Line → Supply → Ended → List ℕ → ℕ → List ℕ → Type 0
@@ -80,4 +85,6 @@ due w = min longest (rate * length (w .kept) + bit (w .spoiled))
 -- Room for replies: what k serial bytes draw, plus what the line may still draw after them, is at most what the line
 -- could draw before them plus the rate for each byte.
 pub record Fair (r : Rack) (s : Sent) (k : ℕ) : Type 0 where
-  pub fair : length (replies plainSupply (r .setup) (r .slots) (s .sent)) + due (s .wire) ≤ due (wireOf (r .line)) + rate * k
+  pub fair :
+      length (replies plainSupply (r .setup) (r .slots) (s .sent)) + due (s .wire)
+      ≤ due (wireOf (r .line)) + rate * k

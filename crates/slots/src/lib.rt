@@ -51,7 +51,9 @@ fn one_ended(selected: u8, supply: Supply, next: usize) -> Ended
 
 // ADR: selects the slot of an address, which says OK; if it is empty, nobody is selected.
 fn select_slot(u: Setup, s: Supply, a: u8, checksummed: bool, buf: &mut [u8], at: usize) -> Ended
-    ensures { λ e. ⌜ (e .all ≡ false) × ((l : Line) → EndsByClass u l s (select a (replyOf checksummed (codeText 0))) e (now (buf .entry)) at (now (buf .exit))) ⌝ }
+    ensures { λ e. ⌜ (e .all ≡ false)
+        × ((l : Line) → EndsByClass u l s (select a (replyOf checksummed (codeText 0)))
+        e (now (buf .entry)) at (now (buf .exit))) ⌝ }
 {
     if serial::has_supply(u, a) {
         let next = texts::put_code_reply(buf, at, 0, checksummed);
@@ -71,7 +73,9 @@ fn say_code(
     buf: &mut [u8],
     at: usize,
 ) -> Ended
-    ensures { λ e. ⌜ (e .all ≡ false) × ((l : Line) → l .selected ≡ selected → EndsByClass u l s (faulty (replyOf checksummed (codeText code))) e (now (buf .entry)) at (now (buf .exit))) ⌝ }
+    ensures { λ e. ⌜ (e .all ≡ false)
+        × ((l : Line) → l .selected ≡ selected → EndsByClass u l s (faulty (replyOf checksummed (codeText code)))
+        e (now (buf .entry)) at (now (buf .exit))) ⌝ }
 {
     if serial::has_supply(u, selected) {
         let next = texts::put_code_reply(buf, at, code, checksummed);
@@ -91,7 +95,9 @@ fn tell_one(
     buf: &mut [u8],
     at: usize,
 ) -> Ended
-    ensures { λ e. ⌜ (e .all ≡ false) × ((l : Line) → l .selected ≡ selected → Asked u l s a checksummed e (now (buf .entry)) at (now (buf .exit))) ⌝ }
+    ensures { λ e. ⌜ (e .all ≡ false)
+        × ((l : Line) → l .selected ≡ selected
+        → Asked u l s a checksummed e (now (buf .entry)) at (now (buf .exit))) ⌝ }
 {
     let model = serial::model_at(u, selected);
     if model == 255 {
@@ -115,7 +121,8 @@ pub fn end_one(
     buf: &mut [u8],
     at: usize,
 ) -> Ended
-    ensures { λ e. ⌜ EndsLine u (lineOf (now (kept .entry)) count spoiled selected) s e (now (buf .entry)) at (now (buf .exit)) ⌝ }
+    ensures { λ e. ⌜ EndsLine u (lineOf (now (kept .entry)) count spoiled selected) s e
+        (now (buf .entry)) at (now (buf .exit)) ⌝ }
 {
     let heard = serial::hear(kept, count, spoiled);
     let asks = heard.asks;

@@ -19,7 +19,8 @@ Final n = (n ≡ 2 → ⊥) × (n ≡ 5 → ⊥)
 -- k reads have brought the bytes s, and the last of them brought b. Each read's bytes are appended to the kept bytes
 -- and worked as fields in turn, up to one that is refused with n; what is left is kept. Another read follows only if
 -- that refusal waits for more bytes.
-pub data Reads (v : wire.Rack Supply) : (k : ℕ) (s b : List ℕ) (q : wire.Rack Supply) (kept said : List ℕ) (n : ℕ) → Type 0 where
+pub data Reads (v : wire.Rack Supply) :
+    (k : ℕ) (s b : List ℕ) (q : wire.Rack Supply) (kept said : List ℕ) (n : ℕ) → Type 0 where
   nothing : Reads v 0 [] [] v [] [] 2
   read :
       (k : ℕ) (s b : List ℕ) (q : wire.Rack Supply) (kept said : List ℕ) (n : ℕ) → Reads v k s b q kept said n → Waits n

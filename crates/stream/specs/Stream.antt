@@ -39,11 +39,13 @@ told sent code b = pick ((sent && not (b .failed)) && ltb (b .from) (b .end)) co
 -- written, q the rack now, and n the number of the refusal that ended the last cycle, or 0. A cycle works the fields of
 -- the kept bytes and of the bytes c read since, up to a refusal or until it is stopped; it hands on what they said,
 -- with the byte `ending` at the end of each line.
-pub data Cycles (v : wire.Rack Supply) (ending : ℕ) : (s kept handed : List ℕ) (q : wire.Rack Supply) (n : ℕ) → Type 0 where
+pub data Cycles (v : wire.Rack Supply) (ending : ℕ) :
+    (s kept handed : List ℕ) (q : wire.Rack Supply) (n : ℕ) → Type 0 where
   none-yet : Cycles v ending [] [] [] v 2
   cycle-on :
       (s kept handed : List ℕ) (q : wire.Rack Supply) (n : ℕ) → Cycles v ending s kept handed q n
-      → (c : List ℕ) (stop : ℕ → Bool) (p : wire.Rack Supply) (used : ℕ) (said : List ℕ) (m : ℕ) → ran p used said m ≡ fieldsOn stop q (kept ++ c)
+      → (c : List ℕ) (stop : ℕ → Bool) (p : wire.Rack Supply) (used : ℕ) (said : List ℕ) (m : ℕ)
+      → ran p used said m ≡ fieldsOn stop q (kept ++ c)
       → Cycles v ending (s ++ c) (drop used (kept ++ c)) (handed ++ map (printed ending) said) p m
 
 -- the true reply stream of an input: what all its fields say, up to one that is refused
@@ -54,11 +56,13 @@ replyStream v ending s = map (printed ending) (allFields v s .said)
 -- the rest of that stream is the one of the kept bytes and those to come, on the rack as it is now
 abbrev pub HandedFirst : Type 0
 HandedFirst =
-    (v : wire.Rack Supply) (ending : ℕ) (s kept handed : List ℕ) (q : wire.Rack Supply) (n : ℕ) → Cycles v ending s kept handed q n
+    (v : wire.Rack Supply) (ending : ℕ) (s kept handed : List ℕ) (q : wire.Rack Supply) (n : ℕ)
+    → Cycles v ending s kept handed q n
     → (later : List ℕ) → replyStream v ending (s ++ later) ≡ handed ++ replyStream q ending (kept ++ later)
 
 -- and if a refusal ended the last cycle, all of the stream was handed on: nothing is held back
 abbrev pub AllHanded : Type 0
 AllHanded =
-    (v : wire.Rack Supply) (ending : ℕ) (s kept handed : List ℕ) (q : wire.Rack Supply) (n : ℕ) → Cycles v ending s kept handed q n
+    (v : wire.Rack Supply) (ending : ℕ) (s kept handed : List ℕ) (q : wire.Rack Supply) (n : ℕ)
+    → Cycles v ending s kept handed q n
     → (n ≡ 0 → ⊥) → handed ≡ replyStream v ending s

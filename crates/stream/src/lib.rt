@@ -33,7 +33,8 @@ pub fn no_block() -> Block
 // nothing.
 pub fn refill(room: &mut [u8], b: Block, code: u8) -> Block
     requires { ⌜ ((code ≡ 0 → ⊥) → (length (unworked (now room) b) < length (now room)) × (0 < b .reads)) ⌝ }
-    ensures { λ n. ⌜ (code ≡ 0 → (n ≡ b) × (now (room .exit) ≡ now (room .entry))) × ((code ≡ 0 → ⊥) → Refilled (unworked (now (room .entry)) b) (now (room .exit)) b n) ⌝ }
+    ensures { λ n. ⌜ (code ≡ 0 → (n ≡ b) × (now (room .exit) ≡ now (room .entry)))
+        × ((code ≡ 0 → ⊥) → Refilled (unworked (now (room .entry)) b) (now (room .exit)) b n) ⌝ }
 {
     if code == 0 {
         return b;

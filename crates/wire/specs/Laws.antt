@@ -21,6 +21,8 @@ pub record Laws (M : Plain) (K : Trips M) (I : ℕ → M .State → Type 0) (m :
   -- while a trip is set, the output is off
   pub shut : (k : K .Trip) (s : M .State) → K .isSet k s ≡ true → K .isOn s ≡ false
   -- a trip stays set through every entry that does not release it
-  pub held : (k : K .Trip) (s : M .State) (e : Entry) → K .isSet k s ≡ true → K .releases m k s e ≡ false → K .isSet k (M .step m s e) ≡ true
+  pub held :
+      (k : K .Trip) (s : M .State) (e : Entry)
+      → K .isSet k s ≡ true → K .releases m k s e ≡ false → K .isSet k (M .step m s e) ≡ true
   -- an entry that releases a trip leaves it clear
   pub frees : (k : K .Trip) (s : M .State) (e : Entry) → K .releases m k s e ≡ true → K .isSet k (M .step m s e) ≡ false

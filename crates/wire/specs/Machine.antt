@@ -31,7 +31,8 @@ noRelease act rel x (e ∷ es) = not (rel x e) && noRelease act rel (act x e) es
 
 -- The list es trips the machine and does not release it: one of its inputs leaves the trip's flag set, and no later
 -- input is a release.
-pub record Tripped {X E : Type 0} (act : X → E → X) (start : X) (flag : X → Bool) (rel : X → E → Bool) (es : List E) : Type 0 where
+pub record Tripped {X E : Type 0}
+    (act : X → E → X) (start : X) (flag : X → Bool) (rel : X → E → Bool) (es : List E) : Type 0 where
   pub before : List E
   pub entry : E
   pub mid : List E
