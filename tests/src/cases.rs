@@ -1,11 +1,11 @@
-//! The readable cases: each a script with the output that the paper asks for beside it.
+//! The readable cases: each is a script with the output that the paper asks for beside it.
 
 use std::fs;
 use std::path::{Path, PathBuf};
 
 use crate::script::{self, Script};
 
-/// One case as it stands in its two files.
+/// One case, from its two files.
 pub struct Case {
     pub name: String,
     pub input: Vec<u8>,
@@ -17,7 +17,7 @@ pub fn folder() -> &'static Path {
     Path::new(concat!(env!("CARGO_MANIFEST_DIR"), "/cases"))
 }
 
-/// All cases of a folder in the order of their names.
+/// All cases of a folder, sorted by name.
 pub fn load(folder: &Path) -> Result<Vec<Case>, String> {
     paths(folder)?.iter().map(|path| load_one(path)).collect()
 }
@@ -53,7 +53,7 @@ fn load_one(path: &Path) -> Result<Case, String> {
     Ok(Case { name, input, expected })
 }
 
-/// Where the output first differs from what was expected, in words; none if it does not.
+/// Where the output first differs from what was expected, in words; none if it does not differ.
 pub fn difference(case: &Case, printed: &[u8]) -> Option<String> {
     if printed == case.expected {
         return None;

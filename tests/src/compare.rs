@@ -13,10 +13,10 @@ use crate::script;
 use crate::share::{self, Tally};
 
 const WORKERS: usize = 2;
-/// Shrinking stops after so many tries, and after so long where each try takes its time.
+/// Shrinking stops after this many tries, or after this time if each try is slow.
 const MOST_TRIES: usize = 4_000;
 const MOST_TIME: Duration = Duration::from_secs(300);
-/// A long run says that it still works after each of so many inputs.
+/// A long run says that it is still working after this many inputs.
 const SIGN_OF_LIFE: u64 = 100_000;
 
 /// The seed of the input with this number; neighbouring runs have no input in common.
@@ -24,12 +24,12 @@ fn input_seed(seed: u64, number: u64) -> u64 {
     Draw::new(seed).any() ^ number.wrapping_mul(0xD1B5_4A32_D192_ED03)
 }
 
-/// Whether the program answers this input otherwise than the reference does.
+/// Whether the program's output for this input differs from the reference's.
 fn differs(program: &str, input: &[u8]) -> bool {
     outside::run(program, input) != Ok(program::run(input))
 }
 
-/// The first input found on which the two differ, shrunk, as a report; none if all are alike.
+/// The first input found on which the two differ, shrunk, as a report; none if they never differ.
 pub fn with_program(program: &str, count: u64, seed: u64) -> Option<String> {
     let next = AtomicU64::new(0);
     let stop = AtomicBool::new(false);
@@ -72,7 +72,7 @@ fn report(program: &str, input: &[u8]) -> String {
     )
 }
 
-/// What was printed, without its last LF; where that is missing, a note says so.
+/// What was printed, without its last LF; if that is missing, a note says so.
 fn lines_of(printed: &str) -> String {
     match printed.strip_suffix('\n') {
         Some(lines) => lines.to_string(),
@@ -81,7 +81,7 @@ fn lines_of(printed: &str) -> String {
     }
 }
 
-/// What shrinking may still spend.
+/// How much shrinking may still cost.
 struct Budget {
     tries: usize,
     until: Instant,
@@ -93,7 +93,7 @@ impl Budget {
     }
 }
 
-/// The smallest list found on which the fault still shows: fields dropped first, bytes after.
+/// The smallest list found that still shows the fault: fields are dropped first, then bytes.
 pub fn shrink(input: Input, faulty: impl Fn(&Input) -> bool) -> Input {
     let mut best = input;
     let mut budget = Budget { tries: MOST_TRIES, until: Instant::now() + MOST_TIME };
@@ -109,7 +109,7 @@ pub fn shrink(input: Input, faulty: impl Fn(&Input) -> bool) -> Input {
     }
 }
 
-/// Takes the smaller list if the fault still shows in it.
+/// Takes the smaller list if it still shows the fault.
 fn try_instead(
     best: &mut Input,
     smaller: Input,
@@ -143,7 +143,7 @@ fn drop_parts(best: &mut Input, faulty: &impl Fn(&Input) -> bool, budget: &mut B
     }
 }
 
-/// Serial fields next to each other become as few as their bytes allow.
+/// Merges adjacent serial fields into as few as their bytes allow.
 fn join_serial(best: &mut Input, faulty: &impl Fn(&Input) -> bool, budget: &mut Budget) {
     let mut at = 1;
     while at + 1 < best.parts.len() {
@@ -165,7 +165,7 @@ fn join_serial(best: &mut Input, faulty: &impl Fn(&Input) -> bool, budget: &mut 
     }
 }
 
-/// Takes single bytes out of serial fields and off the end of anything else.
+/// Removes single bytes from serial fields, and from the end of anything else.
 fn shorten_parts(best: &mut Input, faulty: &impl Fn(&Input) -> bool, budget: &mut Budget) {
     for part in 1..best.parts.len() {
         let mut at = best.parts[part].len();
@@ -180,7 +180,8 @@ fn shorten_parts(best: &mut Input, faulty: &impl Fn(&Input) -> bool, budget: &mu
     }
 }
 
-/// The field without the byte at this place, its length put right; none where that makes no field.
+/// The field without the byte at this place, with its length corrected; none if that is not a
+/// field.
 fn without_byte(part: &[u8], at: usize) -> Option<Vec<u8>> {
     let mut shorter = part.to_vec();
     let serial = part.len() > 4 && part[0] == 1 && usize::from(part[2]) + 3 == part.len();
@@ -231,7 +232,7 @@ pub fn with_itself(count: u64, seed: u64) -> Result<Tally, String> {
     Ok(tally)
 }
 
-/// How often each reply came in generated inputs, so that one sees what they reach.
+/// How often each reply came in generated inputs, to show what they reach.
 pub fn reply_counts(count: u64, seed: u64) -> Vec<(String, usize)> {
     let mut counts = std::collections::BTreeMap::new();
     for number in 0..count {

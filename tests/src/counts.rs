@@ -2,7 +2,8 @@
 
 use crate::supply::{Model, COUNTS_AT_RATING};
 
-/// What a count measures: its name, the letter behind a value, the decimals of its unit, and its rating.
+/// What a count measures: its name, the letter after a value, the decimals of its unit, and its
+/// rating.
 pub struct Quantity {
     pub name: &'static str,
     pub letter: char,
@@ -19,13 +20,14 @@ pub const AMPERES: Quantity = Quantity {
     rating: |model| model.rated_amperes,
 };
 
-/// The least count whose reading is at least the value, in ticks or mA; none where no count reads as much. A reading
-/// is cut down to a whole unit, so it reaches the value just where count × rating reaches 50,000 × value.
+/// The smallest count whose reading is at least the value, in ticks or mA; none if no count reads
+/// that high. A reading is truncated to a whole unit, so it reaches the value exactly when count ×
+/// rating reaches 50,000 × value.
 pub fn least_count(value: i64, rating: i64) -> Option<u16> {
     u16::try_from((value * COUNTS_AT_RATING + rating - 1) / rating).ok()
 }
 
-/// A value in whole units; more decimals than the unit has are no value.
+/// A value in whole units; a text with more decimals than the unit has is not a value.
 pub fn units(text: &str, decimals: usize) -> Option<i64> {
     let (whole, fraction) = text.split_once('.').unwrap_or((text, ""));
     let digits = format!("{whole}{fraction:0<decimals$}");

@@ -15,7 +15,7 @@ pub mod refusals;
 use bench::Tally;
 use library::Controller;
 
-/// What a check does: nothing to say where all is as it should be.
+/// The result of a check: nothing to say if all is as it should be.
 type Judge = Box<dyn Fn(&dyn Controller, &mut Tally) -> Result<(), String>>;
 
 /// One test by its name.
@@ -33,7 +33,7 @@ impl Check {
     }
 }
 
-/// All of them, so many of the lists generated; the last looks at what the others met.
+/// All tests, with this many generated lists; the last checks what the others covered.
 pub fn checks(generated: u64) -> Result<Vec<Check>, String> {
     let mut checks = fitting::checks();
     checks.extend(refusals::checks());

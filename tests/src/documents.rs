@@ -1,4 +1,5 @@
-//! The documents of the repository as text: their tables, fenced blocks, links and the code in their backticks.
+//! The documents of the repository as text: their tables, fenced blocks, links and the code in
+//! their backticks.
 
 use std::collections::BTreeSet;
 use std::fs;
@@ -65,7 +66,7 @@ pub fn quoted(text: &str) -> Vec<&str> {
     prose(text).into_iter().flat_map(|line| line.split('`').skip(1).step_by(2)).collect()
 }
 
-/// The targets of the links in the prose, those in backticks left out.
+/// The targets of the links in the prose, except those in backticks.
 pub fn links(text: &str) -> Vec<String> {
     let mut found = Vec::new();
     for line in prose(text) {
@@ -78,7 +79,8 @@ pub fn links(text: &str) -> Vec<String> {
     found
 }
 
-/// The anchors of the headings, as they are made on the web: small letters, hyphens for spaces, no other signs.
+/// The anchors of the headings, as web pages make them: small letters, hyphens for spaces, no other
+/// signs.
 pub fn anchors(text: &str) -> BTreeSet<String> {
     let headings = prose(text).into_iter().filter(|line| line.starts_with('#'));
     let anchor = |heading: &str| -> String {
@@ -89,7 +91,7 @@ pub fn anchors(text: &str) -> BTreeSet<String> {
     headings.map(anchor).collect()
 }
 
-/// The headings of a level with the text up to the next of that level or above.
+/// The headings of a level, with the text up to the next heading of that level or above.
 pub fn sections(text: &str, level: usize) -> Vec<(String, String)> {
     let mut found: Vec<(String, String)> = Vec::new();
     let (mut open, mut fenced) = (false, false);
@@ -116,7 +118,7 @@ pub fn section(text: &str, level: usize, heading: &str) -> String {
     found.unwrap_or_else(|| panic!("no heading '{heading}'")).1
 }
 
-/// The cells of each row of each table in a text, heads and rules left out.
+/// The cells of each row of each table in a text, without heads and rules.
 pub fn rows(text: &str) -> Vec<Vec<String>> {
     let lines = prose(text);
     let is_rule = |line: &str| line.starts_with("|--") || line.starts_with("| --");
@@ -131,7 +133,7 @@ pub fn rows(text: &str) -> Vec<Vec<String>> {
     found
 }
 
-/// Whether a text has a name as a whole word.
+/// Whether a text contains a name as a whole word.
 pub fn has_word(text: &str, word: &str) -> bool {
     let in_name = |c: char| c.is_alphanumeric() || "_-′".contains(c);
     text.match_indices(word).any(|(at, _)| {
@@ -149,8 +151,8 @@ pub struct Step {
     pub printed: String,
 }
 
-/// The session in docs/COMMANDS.md: `> TEXT` is a line that is sent, `(STEP)` another step of a script, and the lines
-/// behind either are what is printed. A `#` starts a comment.
+/// The session in docs/COMMANDS.md: `> TEXT` is a line that is sent, `(STEP)` another step of a
+/// script, and the lines after either are what is printed. A `#` starts a comment.
 pub fn session() -> Vec<Step> {
     let text = read("docs/COMMANDS.md");
     let block = blocks(&text, "session").pop().expect("docs/COMMANDS.md has a session");
@@ -170,7 +172,7 @@ pub fn session() -> Vec<Step> {
     steps
 }
 
-/// Runs the session up to each of its steps; what each adds must be what stands there, byte by byte.
+/// Runs the session up to each of its steps; each must add what the document shows, byte for byte.
 pub fn session_differs<F>(run: F) -> Result<(), String>
 where
     F: Fn(&[u8]) -> Result<Vec<u8>, String>,
@@ -189,7 +191,7 @@ where
     Ok(())
 }
 
-/// The same of the reference model.
+/// The same for the reference model.
 pub fn session_of_reference() -> Result<(), String> {
     session_differs(|input| Ok(program::run(input)))
 }

@@ -1,9 +1,9 @@
 //! A program whose reads and writes do not go as asked. At every moment what it has printed is a
-//! beginning of the true replies to the bytes that it read, whatever its reads and writes answered:
-//! none is left out, sent twice, or cut and then followed by another. What passes by itself (a call
-//! that was interrupted, a pipe that is empty or full for now, a part of the bytes only) must not
-//! show at all. What does not ends the program with one line on standard error, and with nothing
-//! more on standard output even if it could be written again.
+//! prefix of the true replies to the bytes that it read, whatever its reads and writes returned: no
+//! reply is left out, sent twice, or cut and then followed by another. What passes by itself (a
+//! call that was interrupted, a pipe that is empty or full for now, only a part of the bytes) must
+//! not show at all. Anything else ends the program with one line on standard error, and with
+//! nothing more on standard output even if writing would work again.
 
 pub mod bench;
 pub mod calls;
@@ -17,7 +17,7 @@ pub mod waiting;
 
 use bench::Bench;
 
-/// What a case does: nothing to say where all is as it should be.
+/// The result of a case: nothing to say if all is as it should be.
 type Judge = Box<dyn Fn(&Bench) -> Result<(), String> + Send + Sync>;
 
 /// One test by its name.
@@ -35,7 +35,7 @@ impl Case {
     }
 }
 
-/// All of them; those that mostly wait come first, so that others are worked beside them.
+/// All cases; those that mostly wait come first, so that others run beside them.
 pub fn cases() -> Vec<Case> {
     let mut cases = waiting::cases();
     cases.extend(full::cases());

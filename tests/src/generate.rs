@@ -1,5 +1,5 @@
 //! Makes inputs for the program from a seed: lists that mostly make sense, with values at, just
-//! inside and just outside every limit as the reference model stands at that moment.
+//! inside and just outside every limit as it is in the reference model at that moment.
 
 use crate::line::checksum;
 use crate::rack::{Rack, EMPTY, LEAST_ROOM, SLOTS};
@@ -76,13 +76,13 @@ impl Input {
     }
 }
 
-/// Every query, in the order in which a closing look asks them.
+/// Every query, in the order in which a final check asks them.
 const QUERIES: [&str; 14] = [
     "PV?", "PC?", "OVP?", "UVL?", "MV?", "MC?", "OUT?", "FLD?", "AST?", "RMT?", "MODE?", "FLT?",
     "FENA?", "FEVE?",
 ];
 
-/// Order words, the weightier ones more than once.
+/// Order words, the more important ones more than once.
 const ORDERS: [&str; 22] = [
     "PV", "PV", "PV", "PC", "PC", "OVP", "OVP", "OVP", "UVL", "UVL", "OVM", "OUT", "OUT", "OUT",
     "FLD", "FLD", "AST", "RMT", "RMT", "FENA", "CLS", "RST",
@@ -101,7 +101,7 @@ const ODD_LINES: [&str; 73] = [
     "PV?$E5$EF", "MODE", "MV 1", "PV?$E5$83",
 ];
 
-/// Lines to the address or to everyone with something wrong or unusual about them.
+/// Lines to an address or to everyone with something wrong or unusual about them.
 #[rustfmt::skip]
 const ODD_CALLS: [&str; 24] = [
     "ADR", "ADR ", "ADR x", "ADR 006", "ADR 5.", "ADR 31", "ADR 99", "ADR 30", "ADR 00", "ADR  6",
@@ -159,7 +159,7 @@ fn fitting_list(draw: &mut Draw) -> Vec<u8> {
 }
 
 impl Maker {
-    /// Steps until the wanted number of fields is there, then a look at the settings.
+    /// Steps until the wanted number of fields is there, then a check of the settings.
     fn fill(&mut self) {
         let wanted = match self.draw.below(10) {
             0 => 1 + self.draw.below(4),
@@ -183,7 +183,8 @@ impl Maker {
         self.parts.truncate(201);
     }
 
-    /// Settings well inside the ranges and the output on, so that limits can be met both ways.
+    /// Settings well inside the ranges and the output on, so that limits can be reached from both
+    /// sides.
     fn set_up(&mut self, slot: usize) {
         let model = self.supply(slot).limits();
         let tenths = |draw: &mut Draw, most: i64| most * draw.between(2, 10) / 10;
@@ -214,7 +215,7 @@ impl Maker {
         (!fitted.is_empty()).then(|| self.draw.pick(&fitted))
     }
 
-    /// The slot that most steps are about: the selected one, else any.
+    /// The slot that most steps are about: the selected one, otherwise any.
     fn focus(&mut self) -> Option<usize> {
         match self.rack.selected {
             Some(slot) if self.draw.percent(85) => Some(slot),
@@ -252,7 +253,7 @@ impl Maker {
 
     // ---- serial lines ----
 
-    /// Puts a line and its CR in the queue, dressed in one of many ways.
+    /// Puts a line and its CR in the queue, in one of many variations.
     fn say(&mut self, text: &str) {
         let mut line = text.as_bytes().to_vec();
         match self.draw.below(10) {
@@ -286,7 +287,7 @@ impl Maker {
         line.extend(text.bytes());
     }
 
-    /// Line feeds and taken-back characters change nothing; the rest may well.
+    /// Line feeds and characters taken back change nothing; the rest may.
     fn add_noise(&mut self, line: &mut Vec<u8>) {
         let at = self.draw.below(line.len() as u64 + 1) as usize;
         match self.draw.below(100) {
@@ -304,7 +305,7 @@ impl Maker {
         }
     }
 
-    /// About as long as a line may be: 63 to 67 characters, by fillers before or after.
+    /// About as long as a line may be: 63 to 67 characters, with padding before or after.
     fn lengthen(&mut self, line: &mut Vec<u8>) {
         let wanted = 63 + self.draw.below(5) as usize;
         let extra = wanted.saturating_sub(line.len());
@@ -393,7 +394,7 @@ impl Maker {
 
     // ---- values ----
 
-    /// A value at or near a limit that holds just now, or anywhere within the rating.
+    /// A value at or near a limit that applies at the moment, or anywhere within the rating.
     fn value(&mut self, target: Target) -> i64 {
         let Some(slot) = self.focus() else {
             return self.draw.between(0, 50_000);
@@ -420,7 +421,7 @@ impl Maker {
         }
     }
 
-    /// Such a value as text, written in one of the ways a number may be written.
+    /// Such a value as text, written in one of the ways in which a number may be written.
     fn number(&mut self, target: Target) -> String {
         let decimals = if target == Target::Pc { 3 } else { 4 };
         let value = self.value(target);
@@ -433,7 +434,7 @@ impl Maker {
             4..=6 => short.trim_end_matches('.').to_string(),
             7 => short.strip_prefix('0').filter(|text| text.len() > 1).unwrap_or(&full).to_string(),
             8 => format!("{full}{}", self.draw.below(1000)),
-            // Zeros in front, to the greatest length that a number may have or one more.
+            // Leading zeros, to the greatest length that a number may have or one more.
             _ => format!("{full:0>width$}", width = self.draw.pick(&[1 + full.len(), 12, 13])),
         }
     }
@@ -511,7 +512,7 @@ impl Maker {
         count.clamp(0, 65_535) as u16
     }
 
-    /// Clears what keeps the output off by the one order that does.
+    /// Clears what keeps the output off, by the one order that does so.
     fn turn_on(&mut self) {
         let Some(slot) = self.focus().filter(|slot| !self.supply(*slot).output_on()) else {
             return self.event();
@@ -523,7 +524,7 @@ impl Maker {
         self.flush();
     }
 
-    /// A short bench story: on, tripped, a few doings, and one way out of it.
+    /// A short bench story: on, tripped, a few actions, and one way out of it.
     fn trip_and_release(&mut self) {
         let Some(slot) = self.focus() else { return };
         self.flush();
@@ -544,7 +545,7 @@ impl Maker {
         self.flush();
     }
 
-    /// Lines that rise and fall with the output ordered on, and AST changing meanwhile.
+    /// Lines that rise and fall while the output is ordered on, with AST changing meanwhile.
     fn lines_come_and_go(&mut self) {
         let Some(slot) = self.focus() else { return };
         self.push(4, &[slot as u8, 0]);
@@ -582,7 +583,7 @@ impl Maker {
         }
     }
 
-    /// Asks everything of up to three slots, several lines to a field.
+    /// Asks everything of up to three slots, with several lines in a field.
     fn closing_look(&mut self) {
         let skipped = self.draw.below(self.fitted.len() as u64 + 1) as usize;
         let around = self.fitted.iter().cycle().skip(skipped);
@@ -598,7 +599,7 @@ impl Maker {
 
     // ---- things that get refused ----
 
-    /// Something that a call must refuse, at the end or amid the list.
+    /// Something that a call must refuse, at the end of the list or within it.
     fn spoil_input(&mut self) {
         let at = 1 + self.draw.below(self.parts.len() as u64) as usize;
         let at = if self.draw.percent(60) { self.parts.len() } else { at.min(self.parts.len()) };

@@ -1,5 +1,5 @@
-//! One serial line: from the characters kept at its CR to what it says, whom it speaks to,
-//! what the supply makes of it and how the reply looks on the wire.
+//! One serial line: from the characters kept at its CR to what it says, whom it addresses, what the
+//! supply does with it and how the reply looks on the wire.
 
 use std::io::Write;
 
@@ -7,12 +7,12 @@ use crate::supply::{Answer, Code, Mode, Order, Query, Supply};
 
 /// A line holds this many characters; a further one spoils it.
 pub const LINE_ROOM: usize = 64;
-/// A number has this many characters at most.
+/// A number has at most this many characters.
 const MOST_CHARACTERS: usize = 12;
 const VOLT_DECIMALS: usize = 4;
 const AMPERE_DECIMALS: usize = 3;
 
-/// Whom a line speaks to.
+/// Whom a line addresses.
 #[derive(Clone, Copy, Debug, PartialEq, Eq)]
 pub enum Whom {
     Address,
@@ -28,7 +28,7 @@ pub enum Said {
     Query(Query),
 }
 
-/// What a finished line comes to before any supply has seen it.
+/// What a finished line means before any supply has seen it.
 #[derive(Clone, Copy, Debug, PartialEq, Eq)]
 pub struct Reading {
     pub whom: Whom,
@@ -65,7 +65,7 @@ enum Sum<'a> {
     Wrong,
 }
 
-/// A $ as third last character makes the last two a checksum of what stands before it.
+/// A $ as the third character from the end makes the last two a checksum of what stands before it.
 fn cut_checksum(kept: &[u8]) -> Sum<'_> {
     let Some(at) = kept.len().checked_sub(3).filter(|at| kept[*at] == b'$') else {
         return Sum::Absent;
@@ -82,7 +82,7 @@ fn two_hexadecimal_digits(text: &[u8]) -> Option<u8> {
     Some((digit(high)? * 16 + digit(low)?) as u8)
 }
 
-/// The word up to the first space, the parameter after it; an empty parameter is none.
+/// The word up to the first space, the parameter after it; an empty parameter counts as none.
 fn understand(text: &[u8]) -> (Whom, Result<Said, Code>) {
     if text.is_empty() {
         return (Whom::Selected, Ok(Said::Nothing));
@@ -196,7 +196,7 @@ fn number(text: &[u8], decimals: usize) -> Result<i64, Code> {
     if !well_formed {
         return Err(Code::C03);
     }
-    // Pad to the wanted decimals, and cut what lies below a tick or mA.
+    // Pads to the wanted decimals, and truncates what lies below a tick or mA.
     let mut run = [b'0'; MOST_CHARACTERS + VOLT_DECIMALS];
     let places = fraction.len().min(decimals);
     run[..whole.len()].copy_from_slice(whole);
@@ -204,7 +204,7 @@ fn number(text: &[u8], decimals: usize) -> Result<i64, Code> {
     Ok(run_value(&run[..whole.len() + decimals]))
 }
 
-/// The value of digits, by what stands before the last of them.
+/// The value of digits, from the value of those before the last.
 fn run_value(digits: &[u8]) -> i64 {
     match digits.split_last() {
         None => 0,
@@ -212,7 +212,7 @@ fn run_value(digits: &[u8]) -> i64 {
     }
 }
 
-/// What the plain supply makes of a line that reached it.
+/// What the plain supply does with a line that reached it.
 pub fn obey(supply: &mut Supply, said: Result<Said, Code>) -> Answer {
     const OK: Answer = Answer::Word("OK");
     let done = said.and_then(|said| match said {
@@ -230,7 +230,7 @@ pub fn reply(answer: Answer, checksummed: bool) -> Vec<u8> {
     bytes
 }
 
-/// Puts such a reply after those that are there.
+/// Appends such a reply to those that are there.
 pub fn add_reply(replies: &mut Vec<u8>, answer: Answer, checksummed: bool) {
     let start = replies.len();
     write!(replies, "{answer}").expect("a vector takes any bytes");

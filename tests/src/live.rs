@@ -1,5 +1,5 @@
-//! A program that is kept running: bytes go in while its output is read, with a time limit on
-//! every wait, so that a program that keeps its replies back does not hold up the one who waits.
+//! A program that is kept running: bytes go in while its output is read, with a time limit on every
+//! wait, so that a program that holds its replies back does not block whoever waits.
 
 use std::io::{ErrorKind, Read, Write};
 use std::process::{Child, ExitStatus};
@@ -9,7 +9,7 @@ use std::time::{Duration, Instant};
 use crate::outside;
 use crate::program::Running;
 
-/// A reply that has not come by then is taken to be kept back.
+/// A reply that has not come by then counts as held back.
 pub const PATIENCE: Duration = Duration::from_secs(10);
 
 pub struct Live {
@@ -30,7 +30,7 @@ impl Live {
         Ok(Live::between(child, input, output))
     }
 
-    /// A program that is running already, with the near ends of its input and output.
+    /// A program that is already running, with the near ends of its input and output.
     pub fn between(
         child: Child,
         input: impl Write + Send + 'static,
@@ -54,12 +54,12 @@ impl Live {
         self.child.id()
     }
 
-    /// Sends one byte; false if the program reads no more.
+    /// Sends one byte; false if the program no longer reads.
     pub fn send(&mut self, byte: u8) -> Result<bool, String> {
         self.send_piece(&[byte])
     }
 
-    /// Sends some bytes at once; false if the program reads no more.
+    /// Sends some bytes at once; false if the program no longer reads.
     pub fn send_piece(&mut self, piece: &[u8]) -> Result<bool, String> {
         let pipe = self.input.as_mut().ok_or("the input is closed already")?;
         match pipe.write_all(piece).and_then(|()| pipe.flush()) {
@@ -74,8 +74,8 @@ impl Live {
         self.input = None;
     }
 
-    /// Waits until what is printed and not asked for is enough, or the output has ended, or the time
-    /// is over; answers those bytes without taking them.
+    /// Waits until enough is printed and not yet asked for, or the output has ended, or the time is
+    /// up; returns those bytes without taking them.
     fn wait(&mut self, enough: impl Fn(&[u8]) -> bool, time: Duration) -> &[u8] {
         let until = Instant::now() + time;
         while !enough(&self.ahead) && !self.ended {
@@ -88,7 +88,7 @@ impl Live {
         &self.ahead
     }
 
-    /// The program must print just this, soon, and nothing after it.
+    /// The program must print exactly this, soon, and nothing after it.
     pub fn expect(&mut self, wanted: &[u8]) -> Result<(), String> {
         let settled = |printed: &[u8]| printed == wanted || !wanted.starts_with(printed);
         let printed = self.wait(settled, PATIENCE);
@@ -99,7 +99,7 @@ impl Live {
         Ok(())
     }
 
-    /// Nothing may have been printed, nor be printed within this time.
+    /// Nothing may have been printed, or be printed within this time.
     pub fn expect_nothing(&mut self, time: Duration) -> Result<(), String> {
         let printed = self.wait(|printed| !printed.is_empty(), time);
         if !printed.is_empty() {
@@ -111,7 +111,8 @@ impl Live {
         }
     }
 
-    /// Ends the input, after which what the model prints must come, and the end of the program.
+    /// Ends the input, after which what the model prints must come, and then the end of the
+    /// program.
     pub fn finish(&mut self, model: &mut Running) -> Result<(), String> {
         let mut rest = Vec::new();
         model.take(&[], &mut rest);
@@ -121,7 +122,7 @@ impl Live {
             .map_err(|what| format!("at the end, {what}"))
     }
 
-    /// The program must end soon, without a further byte and without breaking down.
+    /// The program must end soon, without a further byte and without crashing.
     pub fn expect_end(&mut self) -> Result<(), String> {
         let printed = self.wait(|printed| !printed.is_empty(), PATIENCE);
         if !printed.is_empty() {

@@ -21,7 +21,7 @@ extern "C" {
 pub fn feed(command: &mut Command, input: &[u8]) -> io::Result<ExitStatus> {
     let (near, far) = two_ends()?;
     let mut child = command.stdin(far).spawn()?;
-    // The command would hold its own copy of the far end open.
+    // Otherwise the command would keep its own copy of the far end open.
     command.stdin(Stdio::null());
     let sent = send(File::from(near), input);
     let status = child.wait()?;
@@ -38,7 +38,7 @@ fn two_ends() -> io::Result<(OwnedFd, OwnedFd)> {
     }
 }
 
-/// A program that has refused reads no more, which is no error here: its output tells.
+/// A program that has refused no longer reads, which is not an error here: its output shows it.
 fn send(mut near: File, input: &[u8]) -> io::Result<()> {
     for message in messages(input) {
         match near.write_all(message).map_err(|error| error.kind()) {
@@ -49,7 +49,7 @@ fn send(mut near: File, input: &[u8]) -> io::Result<()> {
     Ok(())
 }
 
-/// The list and the fields. What is no field, and all behind it, is one message more.
+/// The list and the fields. What is not a field, and all that follows it, is one more message.
 pub fn messages(input: &[u8]) -> impl Iterator<Item = &[u8]> {
     let (list, mut rest) = input.split_at(input.len().min(SLOTS));
     let fields = std::iter::from_fn(move || {

@@ -7,7 +7,7 @@ use std::time::Duration;
 
 /// A program that has not ended by then is taken to hang.
 const PATIENCE: Duration = Duration::from_secs(20);
-/// What a pipe surely takes without anyone reading at the other end.
+/// What a pipe certainly takes without anyone reading at the other end.
 const PIPE_ROOM: usize = 60_000;
 
 /// Starts the program with both its pipes in our hands.
@@ -39,7 +39,7 @@ pub fn run(program: &str, input: &[u8]) -> Result<Vec<u8>, String> {
     }
 }
 
-/// A refusal may end with any number of its own; a panic or a signal is a fault.
+/// A refusal may end with any exit status of its own; a panic or a signal is a fault.
 pub fn broke_down(status: ExitStatus) -> bool {
     matches!(status.code(), Some(101) | None)
 }

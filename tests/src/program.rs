@@ -1,9 +1,9 @@
-//! The program around the rack: bytes of standard input to the bytes printed, for an input that is
-//! there as a whole and for one that comes in pieces.
+//! The program around the rack: from the bytes of standard input to the bytes printed, for an input
+//! that is there as a whole and for one that comes in pieces.
 
 use crate::rack::{Rack, CUT_SHORT, LEAST_ROOM, NO_HEADER, SLOTS};
 
-/// What the program prints for this input: replies with LF for CR, then a refusal if one comes.
+/// What the program prints for this input: replies with LF for CR, then a refusal if there is one.
 pub fn run(input: &[u8]) -> Vec<u8> {
     let (list, mut rest) = input.split_at(input.len().min(SLOTS));
     let mut printed = Vec::new();
@@ -34,8 +34,8 @@ fn refused(mut printed: Vec<u8>, number: u8) -> Vec<u8> {
     printed
 }
 
-/// The program between two pieces of its input. It answers a field with the piece that brings the
-/// field's last byte, and refuses with the piece after which no further byte can mend it.
+/// The program between two pieces of its input. It replies to a field with the piece that brings
+/// the field's last byte, and refuses with the piece after which no further byte can mend it.
 #[derive(Default)]
 pub struct Running {
     /// None until the fitting list is there.
@@ -51,7 +51,7 @@ impl Running {
         self.over
     }
 
-    /// Takes the next piece and adds to what is printed. An empty piece is the end of the input.
+    /// Takes the next piece and appends to what is printed. An empty piece is the end of the input.
     pub fn take(&mut self, piece: &[u8], printed: &mut Vec<u8>) {
         if self.over {
             return;
@@ -71,7 +71,7 @@ impl Running {
         turn_to_line_feeds(&mut printed[start..]);
     }
 
-    /// Works all that is there in whole; answers how many bytes that was.
+    /// Works all complete fields; returns how many bytes they were.
     fn work(&mut self, last: bool, printed: &mut Vec<u8>) -> Result<usize, u8> {
         let mut used = 0;
         if self.rack.is_none() {
@@ -85,7 +85,7 @@ impl Running {
         while used < self.waiting.len() {
             match rack.call_with(&self.waiting[used..], LEAST_ROOM, printed) {
                 Ok(taken) => used += taken,
-                // More bytes may still make a field of these.
+                // Whether more bytes may still make a field of these.
                 Err(NO_HEADER | CUT_SHORT) if !last => break,
                 Err(number) => return Err(number),
             }

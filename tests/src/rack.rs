@@ -1,5 +1,5 @@
-//! The rack: 31 slots on one serial line, driven by fields. A call works one field,
-//! the first of its bytes, or refuses with a number and leaves everything as it was.
+//! The rack: 31 slots on one serial line, driven by fields. A call works one field, the first of
+//! its bytes, or refuses with a number and leaves everything as it was.
 
 use crate::line::{self, Reading, Said, Whom, LINE_ROOM};
 use crate::supply::{Event, Key, Supply, Target, LINE_BITS, MODELS};
@@ -23,7 +23,7 @@ pub const BAD_FITTING: u8 = 8;
 pub struct Rack {
     pub slots: Vec<Option<Supply>>,
     pub selected: Option<usize>,
-    /// The characters of the line that has not met its CR yet.
+    /// The characters of the line that has not reached its CR yet.
     pub kept: Vec<u8>,
     pub spoiled: bool,
 }
@@ -44,14 +44,14 @@ impl Rack {
         })
     }
 
-    /// Takes the first field; answers the bytes used and the replies, or the refusal's number.
+    /// Takes the first field; returns the bytes used and the replies, or the refusal's number.
     pub fn call(&mut self, bytes: &[u8], room: usize) -> Result<(usize, Vec<u8>), u8> {
         let mut replies = Vec::new();
         let used = self.call_with(bytes, room, &mut replies)?;
         Ok((used, replies))
     }
 
-    /// The same with the replies put after those that are there.
+    /// The same, with the replies appended to those that are there.
     pub fn call_with(
         &mut self,
         bytes: &[u8],
@@ -113,7 +113,7 @@ impl Rack {
         }
     }
 
-    /// Clause "ADR n": an error is answered by the slot selected so far, which stays selected.
+    /// Clause "ADR n": the slot selected so far replies to an error, and stays selected.
     fn address(&mut self, reading: Reading, replies: &mut Vec<u8>) {
         if let Ok(Said::Select(slot)) = reading.said {
             self.selected = self.slots[slot].is_some().then_some(slot);
@@ -138,7 +138,7 @@ impl Rack {
     }
 }
 
-/// Clause "A field": what each tag's payload measures.
+/// Clause "A field": how long each tag's payload is.
 pub fn length_allowed(tag: u8, length: usize) -> bool {
     match tag {
         1 => (1..=16).contains(&length),
@@ -149,7 +149,7 @@ pub fn length_allowed(tag: u8, length: usize) -> bool {
     }
 }
 
-/// What stands after the address; none where a key, target or LINES bit is not known.
+/// What follows the address; none if a key, target or LINES bit is not known.
 fn event_of(tag: u8, rest: &[u8]) -> Option<Event> {
     match (tag, rest) {
         (2, [key]) => Some(Event::Key(match key {

@@ -1,4 +1,5 @@
-//! A readable form of the program's input, one field a line, and back again: docs/SCRIPTS.md has its forms.
+//! A readable form of the program's input, one field per line, and back again: docs/SCRIPTS.md has
+//! its forms.
 
 use crate::counts::{least_count, units, Quantity, AMPERES, VOLTS};
 use crate::rack::{length_allowed, Rack, EMPTY, SLOTS};
@@ -36,7 +37,7 @@ impl Script {
 
 // ---- reading a script ----
 
-/// Where the fitting list of a script stands so far.
+/// The fitting list of a script as read so far.
 #[derive(Default)]
 struct Fitting {
     slots: Vec<(usize, u8)>,
@@ -125,7 +126,7 @@ impl Fitting {
         Ok(())
     }
 
-    /// The model at an address, where there is one.
+    /// The model at an address, if there is one.
     fn model_at(&self, address: u8) -> Option<&'static Model> {
         let number = match &self.raw {
             Some(raw) => raw.get(usize::from(address)),
@@ -259,7 +260,7 @@ fn sample_field(words: &[&str], fitting: &Fitting) -> Result<Vec<u8>, String> {
     Ok(field(5, &[&[address], &counts[..]].concat()))
 }
 
-/// A count as it is, or that of a value with its letter behind it.
+/// A count as it is, or that of a value followed by its letter.
 fn count_of(
     word: &str,
     quantity: &Quantity,
@@ -306,7 +307,7 @@ fn serial_text(rest: &str) -> Result<Vec<u8>, String> {
     }
 }
 
-/// What stands after the opening quote, up to the closing one; then only a comment may come.
+/// What follows the opening quote, up to the closing one; after that only a comment may come.
 fn quoted_text(quoted: &str) -> Result<Vec<u8>, String> {
     let mut bytes = Vec::new();
     let mut signs = quoted.chars();
@@ -345,7 +346,7 @@ fn escaped(signs: &mut std::str::Chars) -> Result<u8, String> {
 
 // ---- writing a script ----
 
-/// Any bytes as a script that stands for just these bytes.
+/// Any bytes as a script that stands for exactly these bytes.
 pub fn write(bytes: &[u8]) -> String {
     let (list, mut rest) = bytes.split_at(bytes.len().min(SLOTS));
     let mut lines = write_fitting(list);
@@ -360,7 +361,7 @@ pub fn write(bytes: &[u8]) -> String {
     lines.iter().map(|line| format!("{line}\n")).collect()
 }
 
-/// The nicer form and how many bytes it stands for, if it leads back to just these bytes.
+/// The nicer form and how many bytes it stands for, if it leads back to exactly these bytes.
 fn write_exact(bytes: &[u8]) -> Option<(String, usize)> {
     let line = write_field(bytes)?;
     let back = parse(line.as_bytes()).ok()?;
@@ -387,15 +388,15 @@ fn write_raw(bytes: &[u8]) -> String {
     hex_words("bytes", bytes)
 }
 
-/// How many bytes the first field takes, header included; none if it is not whole.
+/// How many bytes the first field takes, header included; none if it is incomplete.
 pub fn field_length(bytes: &[u8]) -> Option<usize> {
     let [tag, high, low, rest @ ..] = bytes else { return None };
     let length = usize::from(u16::from_be_bytes([*high, *low]));
     (length_allowed(*tag, length) && rest.len() >= length).then_some(3 + length)
 }
 
-/// How many bytes a run of full tag 1 fields takes up to the first that ends in CR; none
-/// where the fields would not be cut just so by a `line`.
+/// How many bytes a run of full tag 1 fields takes up to the first that ends in CR; none if a
+/// `line` would not split the fields in just this way.
 fn line_length(bytes: &[u8]) -> Option<usize> {
     let mut at = 0;
     loop {
@@ -457,7 +458,7 @@ fn write_serial(fields: &[u8]) -> Option<String> {
     Some(text.trim_end().to_string())
 }
 
-/// Plain where that says all, else in quotes.
+/// Plain if that says everything, otherwise in quotes.
 fn write_text(serial: &[u8]) -> String {
     let text = String::from_utf8_lossy(serial).into_owned();
     let plain = serial.iter().all(|byte| matches!(byte, b' '..=b'~') && *byte != b'#')

@@ -1,6 +1,6 @@
-//! A second reading of a list of calls, apart from the rack: the accepted tag 1 bytes are cut
-//! into lines, then it is settled who is selected at each CR, then what is one address's share.
-//! The plain supply run on that share must end as the rack's supply at that address does.
+//! A second reading of a list of calls, independent of the rack: the accepted tag 1 bytes are split
+//! into lines, then it is decided who is selected at each CR, then what one address's share is. The
+//! plain supply run on that share must end as the rack's supply at that address does.
 
 use crate::line;
 use crate::rack::{Rack, LEAST_ROOM};
@@ -31,7 +31,7 @@ impl Moment {
     }
 }
 
-/// Whether none of the seven causes of refusal stands against a call on this fitting.
+/// Whether a call on this fitting has none of the seven causes of refusal.
 fn accepted(fitting: &[u8], call: &Call) -> bool {
     let bytes = &call.bytes;
     if call.room < LEAST_ROOM || bytes.len() < 3 {
@@ -58,7 +58,7 @@ fn accepted(fitting: &[u8], call: &Call) -> bool {
     }
 }
 
-/// First pass: the accepted fields in order, their serial bytes cut at every CR.
+/// First pass: the accepted fields in order, with their serial bytes split at every CR.
 pub fn moments(fitting: &[u8], calls: &[Call]) -> Vec<Moment> {
     let mut found = Vec::new();
     let mut line: Vec<u8> = Vec::new();
@@ -86,7 +86,7 @@ pub fn moments(fitting: &[u8], calls: &[Call]) -> Vec<Moment> {
     found
 }
 
-/// What sort of line it is, for the question whose share it belongs to.
+/// What kind of line it is, which decides whose share it belongs to.
 #[derive(Clone, Debug, PartialEq, Eq)]
 enum Sort {
     Adr(usize),
@@ -142,7 +142,7 @@ fn is_number(text: &str) -> bool {
     digits >= 1 && points <= 1 && digits + points == text.chars().count() && text.len() <= 12
 }
 
-/// Second pass: the slot selected when each moment came, by the stream before it alone.
+/// Second pass: the slot selected when each moment came, judged only by the stream before it.
 fn selections(fitting: &[u8], moments: &[Moment]) -> Vec<Option<usize>> {
     let mut selected = None;
     let mut held = Vec::new();
@@ -157,7 +157,7 @@ fn selections(fitting: &[u8], moments: &[Moment]) -> Vec<Option<usize>> {
     held
 }
 
-/// Third pass: the entries that are this address's, in order.
+/// Third pass: the entries of this address, in order.
 pub fn share(fitting: &[u8], calls: &[Call], slot: usize) -> Vec<Entry> {
     let moments = moments(fitting, calls);
     let selected = selections(fitting, &moments);
@@ -218,7 +218,7 @@ fn event(tag: u8, payload: &[u8]) -> Event {
     }
 }
 
-/// Runs one entry on the plain supply and tells what trips it set and released.
+/// Runs one entry on the plain supply and returns what trips it set and released.
 fn take(supply: &mut Supply, entry: &Entry) -> Step {
     let before = supply.clone();
     let released = match input(entry) {
@@ -247,7 +247,7 @@ pub fn plain_steps(model: u8, share: &[Entry]) -> Vec<Step> {
     share.iter().map(|entry| take(&mut supply, entry)).collect()
 }
 
-/// How much a list of calls exercised, so that a run can show that it was no idle one.
+/// How much a list of calls exercised, so that a run can show that it tested something.
 #[derive(Clone, Copy, Debug, Default)]
 pub struct Tally {
     pub calls: usize,
@@ -285,7 +285,8 @@ pub fn check(fitting: &[u8], calls: &[Call]) -> Result<Tally, String> {
     Ok(tally)
 }
 
-/// The rack after each call; a refused call must leave it and name a cause, and only then.
+/// The rack after each call; a call must be refused exactly if it has a cause, and must then leave the
+/// rack as it was.
 fn rack_after_each_call(fitting: &[u8], calls: &[Call]) -> Result<Vec<Rack>, String> {
     let mut rack = Rack::fit(fitting).map_err(|number| format!("fitting refused {number}"))?;
     let mut after = Vec::new();
@@ -350,7 +351,7 @@ fn check_off_until_release(slot: usize, racks: &[Rack], steps: &[Step]) -> Resul
     Ok(())
 }
 
-/// A standing trip ends at its first release and at nothing else.
+/// A trip ends at its first release and at nothing else.
 fn check_trips_end_by_release(model: u8, steps: &[Step]) -> Result<(), String> {
     let mut before = Supply::fresh(model);
     for step in steps {

@@ -1,5 +1,5 @@
-//! The plain supply: one power supply by itself, without rack, slot or serial line.
-//! Volts are whole ticks of 0.1 mV and amperes whole mA, so every figure here is exact.
+//! The plain supply: one power supply by itself, without rack, slot or serial line. Volts are whole
+//! ticks of 0.1 mV and amperes whole mA, so every figure here is exact.
 
 use std::fmt;
 
@@ -13,7 +13,8 @@ pub struct Model {
     pub uvl_most: i64,
 }
 
-/// A row written in tenths of a volt and of an ampere; every figure of the table is whole there.
+/// A row written in tenths of a volt and of an ampere; every figure of the table is a whole number
+/// of them.
 const fn row(volts: i64, amperes: i64, ovp_least: i64, ovp_most: i64, uvl_most: i64) -> Model {
     const TICKS: i64 = 1_000;
     const MILLIAMPERES: i64 = 100;
@@ -42,7 +43,7 @@ pub const MODELS: [Model; 12] = [
     row(6000, 13, 50, 6600, 5700),
 ];
 
-/// A sample of this count reads as the rating.
+/// A sample with this count reads as the rating.
 pub const COUNTS_AT_RATING: i64 = 50_000;
 
 impl Model {
@@ -60,7 +61,7 @@ impl Model {
     }
 }
 
-// Clause "FLT": where each cause stands in the byte.
+// Clause "FLT": the bit for each cause.
 pub const AC: u8 = 1 << 1;
 pub const OTP: u8 = 1 << 2;
 pub const FOLD: u8 = 1 << 3;
@@ -179,7 +180,7 @@ pub enum Answer {
 }
 
 impl fmt::Display for Answer {
-    /// Volts have four decimals, amperes three, and neither a needless leading zero.
+    /// Volts have four decimals, amperes three, and neither has a needless leading zero.
     fn fmt(&self, out: &mut fmt::Formatter) -> fmt::Result {
         match *self {
             Answer::Word(word) => out.write_str(word),
@@ -190,7 +191,7 @@ impl fmt::Display for Answer {
     }
 }
 
-/// Which trips an entry releases, whether or not they stand.
+/// Which trips an entry releases, whether or not they are set.
 #[derive(Clone, Copy, Debug, Default, PartialEq, Eq)]
 pub struct Releases {
     pub fold: bool,
@@ -250,7 +251,7 @@ impl Supply {
         &MODELS[usize::from(self.model)]
     }
 
-    /// Clause "FLT": worked out from the state, never stored.
+    /// Clause "FLT": computed from the state, never stored.
     pub fn flt(&self) -> u8 {
         let mut flt = self.lines & LINE_BITS;
         if self.fold_trip {
@@ -269,7 +270,7 @@ impl Supply {
         self.flt() == 0
     }
 
-    /// Clause "Margins" with the ranges named beside it.
+    /// Clause "Margins", with the ranges named beside it.
     pub fn within_limits(&self) -> bool {
         let model = self.limits();
         let margins = 20 * self.uvl <= 19 * self.pv && 21 * self.pv <= 20 * self.ovp;
@@ -296,7 +297,7 @@ impl Supply {
         self.keep_risen_faults(flt, fena);
     }
 
-    /// Clause "Lines event": its three sentences hold side by side, each judged on the change.
+    /// Clause "Lines event": its three sentences apply side by side, each judged on the change.
     fn set_lines(&mut self, new: u8) {
         let risen = new & !self.lines;
         let fallen = self.lines & !new;
@@ -320,7 +321,7 @@ impl Supply {
         self.ovp_trip = false;
     }
 
-    /// Clause "Sample event": a count of 50,000 is the rating; the rest below a unit is cut.
+    /// Clause "Sample event": a count of 50,000 is the rating; what is below a unit is truncated.
     pub fn reading(count: u16, rating: i64) -> i64 {
         i64::from(count) * rating / COUNTS_AT_RATING
     }
@@ -347,7 +348,7 @@ impl Supply {
         }
     }
 
-    /// Clause "Keys": only in MODE 0, but for LOCAL, which only works in MODE 1.
+    /// Clause "Keys": only in MODE 0, except LOCAL, which only works in MODE 1.
     fn press(&mut self, key: Key) {
         match (key, self.mode) {
             (Key::Output, Mode::Local) => self.press_output(),
@@ -367,7 +368,7 @@ impl Supply {
         }
     }
 
-    /// ARMED goes off; a standing FOLD trip goes with it, and then the output is ordered off.
+    /// ARMED goes off; a FOLD trip that is set goes with it, and then the output is ordered off.
     fn disarm(&mut self) {
         self.armed = false;
         if self.fold_trip {
@@ -376,7 +377,7 @@ impl Supply {
         }
     }
 
-    /// The least and the most that one setting may have while the others stay as they are.
+    /// The least and the most that one setting may be while the others stay as they are.
     pub fn range(&self, target: Target) -> (i64, i64) {
         let model = self.limits();
         match target {
@@ -417,13 +418,14 @@ impl Supply {
         }
         self.keep_risen_faults(flt, fena);
         if order == Order::Rst {
-            // The drop of WANT by the reset itself must not stay behind in FEVE.
+            // The drop of WANT by the reset itself must not stay in FEVE.
             self.feve = 0;
         }
         Ok(())
     }
 
-    /// The middle column of the table of orders; products fit, a number has 12 characters at most.
+    /// The middle column of the table of orders; products fit, as a number has at most 12
+    /// characters.
     fn judge(&self, order: Order) -> Result<(), Code> {
         let model = self.limits();
         match order {
@@ -502,7 +504,7 @@ impl Supply {
         }
     }
 
-    /// MODE?: the stored ampere count against the PC of now.
+    /// MODE?: the stored ampere count against the present PC.
     fn regulation(&self) -> &'static str {
         if !self.output_on() {
             "OFF"
@@ -552,12 +554,12 @@ fn on_off(on: bool) -> Answer {
     Answer::Word(if on { "ON" } else { "OFF" })
 }
 
-/// Volts as a reply has them.
+/// Volts as in a reply.
 pub fn volts_text(ticks: i64) -> String {
     Answer::Volts(ticks).to_string()
 }
 
-/// Amperes as a reply has them.
+/// Amperes as in a reply.
 pub fn amperes_text(milliamperes: i64) -> String {
     Answer::Amperes(milliamperes).to_string()
 }

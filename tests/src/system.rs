@@ -1,5 +1,5 @@
-//! What the fault tests need of Linux and std does not have: descriptors that do not block, limits,
-//! and terminals. Numbers and layouts are those of x86-64 with glibc.
+//! What the fault tests need from Linux that std does not have: descriptors that do not block,
+//! limits, and terminals. Numbers and layouts are those of x86-64 with glibc.
 
 use std::ffi::{c_char, CStr};
 use std::fs::File;
@@ -40,7 +40,7 @@ const BYTES_WAITING: u64 = 0x541B;
 const IGNORE: usize = 1;
 const TIME_AT: usize = 5;
 const LEAST_AT: usize = 6;
-/// Clock ticks in a second, as /proc counts them.
+/// Clock ticks per second, as /proc counts them.
 const TICKS: u64 = 100;
 
 /// A terminal's settings: four words of flags, the line discipline, the control characters, speeds.
@@ -75,7 +75,7 @@ fn done(status: i32) -> io::Result<i32> {
     }
 }
 
-/// What is to be done in a program's process before the program starts there.
+/// What is done in a program's process before the program starts there.
 #[derive(Clone, Copy)]
 pub enum Before {
     Close(i32),
@@ -107,7 +107,7 @@ pub fn never_wait(descriptor: &impl AsRawFd) -> io::Result<()> {
     done(unsafe { fcntl(number, SET_FLAGS, flags | NON_BLOCKING) }).map(|_| ())
 }
 
-/// A pipe takes so many bytes at most before someone reads.
+/// A pipe takes at most this many bytes before someone reads.
 pub fn narrow(pipe: &impl AsRawFd, bytes: i32) -> io::Result<()> {
     // SAFETY: the descriptor is open as long as it is lent.
     done(unsafe { fcntl(pipe.as_raw_fd(), SET_PIPE_SIZE, bytes) }).map(|_| ())
@@ -122,7 +122,7 @@ pub fn send_signal(process: u32, number: i32) -> io::Result<()> {
 pub fn computed(process: u32) -> Result<Duration, String> {
     let text = std::fs::read_to_string(format!("/proc/{process}/stat"));
     let text = text.map_err(|error| format!("process {process}: {error}"))?;
-    // The name in brackets may have blanks; 11 fields stand between it and the two times.
+    // The name in brackets may contain blanks; 11 fields stand between it and the two times.
     let behind = text.rsplit(')').next().unwrap_or_default();
     let times = behind.split_whitespace().skip(11).take(2).flat_map(str::parse::<u64>);
     Ok(Duration::from_millis(times.sum::<u64>() * 1000 / TICKS))
@@ -135,9 +135,10 @@ pub struct Line {
 }
 
 impl Line {
-    /// A line in raw mode on which a read waits for `least` bytes, or for `time` tenths of a second.
+    /// A line in raw mode on which a read waits for `least` bytes, or for `time` tenths of a
+    /// second.
     pub fn open(least: u8, time: u8) -> io::Result<Line> {
-        // No child may have the near end, as a line hangs up when the last one closes it.
+        // No child may have the near end, as a line hangs up when its last descriptor closes.
         let flags = READ_WRITE | NO_CONTROLLING | NOT_FOR_CHILDREN;
         // SAFETY: the descriptor is new, and nobody else has it.
         let near = unsafe { File::from_raw_fd(done(posix_openpt(flags))?) };
@@ -150,7 +151,7 @@ impl Line {
 
 fn far_name(near: &File) -> io::Result<String> {
     let mut name = [0; 64];
-    // SAFETY: the descriptor is open, and the name has the room that is told.
+    // SAFETY: the descriptor is open, and the name has the given room.
     unsafe {
         done(grantpt(near.as_raw_fd()))?;
         done(unlockpt(near.as_raw_fd()))?;
@@ -173,7 +174,7 @@ fn make_raw(far: &File, least: u8, time: u8) -> io::Result<()> {
     Ok(())
 }
 
-/// Bytes that came in and that nobody has read yet.
+/// Bytes that have arrived and that nobody has read yet.
 pub fn waiting(descriptor: &impl AsRawFd) -> io::Result<i32> {
     let mut count = 0;
     // SAFETY: the call writes the one number.

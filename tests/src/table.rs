@@ -1,5 +1,6 @@
-//! Shows a script with what a program replied to it, as a table for the bench: each step, its replies, and the output
-//! of the slots that the step touched (by the reference model). All of it takes one run of either.
+//! Shows a script with a program's replies to it, as a table for the bench: each step, its replies,
+//! and the output of the slots that the step touched (by the reference model). Program and
+//! reference run once each.
 
 use crate::outside;
 use crate::rack::{Rack, LEAST_ROOM};
@@ -17,7 +18,7 @@ struct Step {
     lines: Vec<(usize, String)>,
     /// Where the step ends within the program's input.
     end: usize,
-    /// Where the reference's output stands when the step is done.
+    /// Where the reference's output ends when the step is done.
     printed: usize,
     ends_a_line: bool,
     state: Vec<String>,
@@ -48,7 +49,7 @@ fn line_of_difference(one: &[u8], other: &[u8]) -> usize {
     one[..same].iter().rposition(|byte| *byte == b'\n').map_or(0, |at| at + 1)
 }
 
-/// Joins script lines until they end where a field ends; rows after a bad header stay as one.
+/// Joins script lines until they end where a field ends; rows after a bad header stay together.
 fn steps(script: &Script) -> Vec<Step> {
     let fields: Vec<u8> = script.rows.iter().flat_map(|row| row.bytes.clone()).collect();
     let mut steps = Vec::new();
@@ -114,7 +115,8 @@ fn ends_a_line(field: &[u8]) -> bool {
     field[0] == 1 && field[3..3 + usize::from(field[2])].contains(&b'\r')
 }
 
-/// The slot that an accepted field spoke to, and whether by a sample: its address, or the one selected at a line's end.
+/// The slot that an accepted field addressed, and whether by a sample: its address, or the slot
+/// selected at a line's end.
 fn slot_spoken_to(field: &[u8], rack: &Rack) -> Option<(usize, bool)> {
     match field[0] {
         1 => rack.selected.filter(|_| ends_a_line(field)).map(|slot| (slot, false)),
@@ -122,7 +124,7 @@ fn slot_spoken_to(field: &[u8], rack: &Rack) -> Option<(usize, bool)> {
     }
 }
 
-/// The slots spoken to and those that a global line changed.
+/// The slots addressed and those that a global changed.
 fn touched(before: &Rack, after: &Rack, spoken_to: &[Option<(usize, bool)>]) -> Vec<String> {
     let mut shown = Vec::new();
     for (slot, supply) in after.slots.iter().enumerate() {
@@ -137,7 +139,7 @@ fn touched(before: &Rack, after: &Rack, spoken_to: &[Option<(usize, bool)>]) -> 
     shown
 }
 
-/// What the stored counts read as.
+/// The readings of the stored counts.
 fn reading_words(supply: &Supply) -> String {
     let volts = volts_text(supply.volt_reading());
     let amperes = amperes_text(supply.ampere_reading());
@@ -145,7 +147,7 @@ fn reading_words(supply: &Supply) -> String {
     format!("; reads {volts} V, {amperes} A (counts {volt_count}, {ampere_count})")
 }
 
-/// On, or off with every cause that FLT tells.
+/// On, or off with every cause in FLT.
 fn output_words(supply: &Supply) -> String {
     const CAUSES: [(u8, &str); 7] = [
         (WANT_OFF, "ordered off"),
@@ -164,7 +166,7 @@ fn output_words(supply: &Supply) -> String {
     format!("off ({})", names.join(", "))
 }
 
-/// The rows, with the replies up to where program and reference part.
+/// The rows, with the replies up to where program and reference differ.
 fn layout(steps: &[Step], printed: &[u8], same: usize) -> String {
     let head = ["line", "step", "reply", "output after it"].map(str::to_string);
     let mut rows = vec![head];

@@ -1,13 +1,13 @@
-//! One trial of the supply: a state, what it is asked, and what the reference makes of it, as a
+//! One trial of the supply: a state, what it is asked, and what the reference does with it, as a
 //! line of decimal numbers for a program that tries another supply on the same.
 //!
 //! The numbers of a line: the model; the state before (PV PC OVP UVL WANT ARMED AST MODE LINES
 //! FOLD-trip OVP-trip FENA FEVE volt-count ampere-count); the act's kind and two operands; the
-//! code, 0 where accepted; the state after; the answer's kind and two values.
+//! error code, or 0 if accepted; the state after; the answer's kind and two values.
 
 use crate::supply::{Code, Event, Key, Mode, Order, Query, Supply, Target};
 
-/// Whatever a supply can be asked; nothing is the empty line.
+/// Anything that a supply can be asked; nothing is the empty line.
 #[derive(Clone, Copy, Debug, PartialEq, Eq)]
 pub enum Act {
     Nothing,
@@ -16,14 +16,14 @@ pub enum Act {
     Query(Query),
 }
 
-/// An act with the supply that it meets.
+/// An act with the supply that takes it.
 #[derive(Clone, Debug, PartialEq, Eq)]
 pub struct Trial {
     pub before: Supply,
     pub act: Act,
 }
 
-/// What the reference makes of a trial: the code, the answer as printed, the supply after.
+/// What the reference makes of a trial: the error code, the answer as printed, the supply after.
 #[derive(Clone, Debug, PartialEq, Eq)]
 pub struct Expected {
     pub code: Option<Code>,
@@ -31,7 +31,7 @@ pub struct Expected {
     pub after: Supply,
 }
 
-/// How many numbers of a line are expected: the code, the state after and the answer.
+/// How many numbers of a line are expected: the error code, the state after and the answer.
 pub const EXPECTED: usize = 19;
 
 // The kinds of act, as the lines number them.
@@ -77,7 +77,7 @@ impl Trial {
         line_of(&self.numbers())
     }
 
-    /// The same with one of the numbers that are expected wrong on purpose.
+    /// The same, with one of the expected numbers wrong on purpose.
     pub fn line_wrong_at(&self, expected: usize) -> String {
         let mut numbers = self.numbers();
         let first = numbers.len() - EXPECTED;
@@ -158,7 +158,7 @@ fn act_numbers(act: Act) -> [i64; 3] {
     }
 }
 
-/// A knob's step stands as its 32 bits read without a sign.
+/// A knob's step is written as its 32 bits read without a sign.
 fn event_numbers(event: Event) -> [i64; 3] {
     match event {
         Event::Lines(lines) => [LINES, i64::from(lines), 0],
@@ -207,7 +207,7 @@ fn query_number(query: Query) -> i64 {
     QUERIES.iter().position(|known| *known == query).expect("every query is listed") as i64
 }
 
-/// A code as one byte: its letter's hexadecimal digit, then its last digit.
+/// An error code as one byte: its letter's hexadecimal digit, then its last digit.
 fn code_number(code: Code) -> i64 {
     let (letter, digits) = code.text().split_at(1);
     let high = i64::from_str_radix(letter, 16).expect("C or E");
@@ -215,7 +215,7 @@ fn code_number(code: Code) -> i64 {
 }
 
 /// An answer by meaning, read back from its text: a byte, a word's number, or a figure's decimals
-/// and value. The query tells which (CC is a word of MODE? and a byte of FLT?).
+/// and value. The query decides which (CC is a word of MODE? and a byte of FLT?).
 fn answer_numbers(act: Act, answer: Option<&str>) -> [i64; 3] {
     let (Act::Query(query), Some(text)) = (act, answer) else { return [0, 0, 0] };
     if matches!(query, Query::Flt | Query::Fena | Query::Feve) {

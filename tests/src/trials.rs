@@ -1,6 +1,6 @@
 //! The table of trials: every order, key, knob step, event and query on every model, with the
-//! values just inside and just outside each limit and margin. Nothing in it is left to chance:
-//! what does not matter to a trial is drawn from a fixed seed.
+//! values just inside and just outside each limit and margin. Nothing in it is left to chance: what
+//! does not matter to a trial is drawn from a fixed seed.
 
 use std::collections::{BTreeSet, HashSet};
 
@@ -14,23 +14,23 @@ const TARGETS: [Target; 4] = [Target::Pv, Target::Pc, Target::Ovp, Target::Uvl];
 const KEYS: [Key; 3] = [Key::Output, Key::Fold, Key::Local];
 const MODES: [Mode; 3] = [Mode::Local, Mode::Remote, Mode::LockedOut];
 /// Numbers that a supply of any model refuses: more than 31 and 32 bits hold, and the most that 12
-/// digits say in ticks.
+/// digits can say in ticks.
 const FAR: [i64; 3] = [1 << 31, (1 << 32) + 7, 9_999_999_999_990_000];
-/// The largest knob steps of both signs, and the least.
+/// The largest knob steps of both signs, and the smallest.
 const STEPS: [i32; 7] = [i32::MIN, i32::MIN + 1, -1, 0, 1, i32::MAX - 1, i32::MAX];
 /// Bytes for FENA and FEVE: none, all, and bits apart.
 const REGISTERS: [u8; 5] = [0, 255, 0b0101_0010, 0b0010_1100, 0b1000_0001];
-/// Which trips stand: FOLD, OVP. Fields never lead to both, but each sentence speaks of one.
+/// Which trips are set: FOLD, OVP. Fields never lead to both, but each sentence is about one.
 const TRIPS: [(bool, bool); 4] = [(false, false), (true, false), (false, true), (true, true)];
 
-/// All trials as text, a line each and no line twice, and behind them the wrong lines.
+/// All trials as text, one per line and no line twice, followed by the wrong lines.
 pub fn table() -> String {
     let mut seen = HashSet::new();
     let right = all().into_iter().map(|trial| trial.line());
     right.chain(wrong()).filter(|line| seen.insert(line.clone())).collect()
 }
 
-/// One trial with each number that is expected changed in turn: a program that tells none of them
+/// One trial with each expected number changed in turn: a program that reports none of them
 /// compares nothing.
 pub fn wrong() -> Vec<String> {
     let trial = Trial { before: Supply::fresh(0), act: Act::Query(Query::Flt) };
@@ -56,7 +56,7 @@ pub fn all() -> Vec<Trial> {
     table.trials
 }
 
-/// Supplies of one model whose settings stand as fresh, far from limits and margins, exactly at both
+/// Supplies of one model whose settings are fresh, far from limits and margins, exactly at both
 /// margins, with OVP at its least, and as high as they go.
 struct Standings {
     fresh: Supply,
@@ -107,7 +107,7 @@ fn limits(supply: &Supply, target: Target) -> Vec<i64> {
     }
 }
 
-/// Where it meets a margin, cut to a whole tick.
+/// Where it meets a margin, truncated to a whole tick.
 fn margins(supply: &Supply, target: Target) -> Vec<i64> {
     match target {
         Target::Pv => vec![20 * supply.ovp / 21, 20 * supply.uvl / 19],
@@ -126,12 +126,12 @@ fn set(target: Target, value: i64) -> Order {
     }
 }
 
-/// The first count whose reading is at least this figure.
+/// The first count whose reading is at least this value.
 fn first_count(figure: i64, rating: i64) -> u16 {
     ((figure * 50_000 + rating - 1) / rating) as u16
 }
 
-/// WANT and the trips in all their ways; a FOLD trip stands only where ARMED is on.
+/// WANT and the trips in all combinations; a FOLD trip is set only if ARMED is on.
 fn outputs(supply: &Supply) -> Vec<Supply> {
     let wants = [false, true].into_iter();
     let ways = wants.flat_map(|want| TRIPS.map(|trips| (want, trips)));
@@ -173,7 +173,8 @@ impl Table {
         self.draw.below(2) == 1
     }
 
-    /// A supply of any model with fresh settings and no trip; switches, MODE and registers drawn.
+    /// A supply of any model with fresh settings and no trip; switches, MODE and registers are
+    /// drawn.
     fn any(&mut self) -> Supply {
         let model = self.draw.below(MODELS.len() as u64) as u8;
         Supply {
@@ -211,7 +212,7 @@ impl Table {
         }
     }
 
-    /// Orders for 0, for the value that stands, and around each limit and margin.
+    /// Orders for 0, for the present value, and around each limit and margin.
     fn orders_at_bounds(&mut self, supply: &Supply, target: Target) {
         let mut values = vec![0, *supply.clone().setting(target)];
         values.extend(around(&limits(supply, target)));
@@ -265,7 +266,7 @@ impl Table {
         self.samples_while_off(&Supply { armed: true, ..on }, volts, amperes);
     }
 
-    /// Counts that would trip, were the output not off: by an order, by a line or by a trip.
+    /// Counts that would trip if the output were not off: by an order, by a line or by a trip.
     fn samples_while_off(&mut self, on: &Supply, volts: u16, amperes: u16) {
         let lines = self.draw.pick(&[AC, OTP, SO, ENA]);
         let trips = self.draw.pick(&TRIPS[1..]);
@@ -279,7 +280,7 @@ impl Table {
         }
     }
 
-    /// The four settings as they are told, and MODE? around PC.
+    /// The four settings as queries show them, and MODE? around PC.
     fn figures(&mut self, supply: &Supply) {
         for query in [Query::Pv, Query::Pc, Query::Ovp, Query::Uvl] {
             self.ask(supply.clone(), query);
@@ -290,7 +291,7 @@ impl Table {
         }
     }
 
-    /// MV? and MC? at the ends, around the rating, and at counts that are cut.
+    /// MV? and MC? at the ends, around the rating, and at counts that are truncated.
     fn readings(&mut self, model: u8) {
         for count in [0, 1, 49_999, 50_000, 50_001, u16::MAX, self.draw.any() as u16] {
             let other = self.draw.any() as u16;
@@ -302,7 +303,7 @@ impl Table {
         }
     }
 
-    /// RST and OVM out of many states.
+    /// RST and OVM in many states.
     fn resets(&mut self, all: &Standings) {
         for settings in [&all.apart, &all.tight, &all.low] {
             let supply = Supply {
@@ -323,7 +324,7 @@ impl Table {
         }
     }
 
-    /// The knob, which acts in MODE 0 alone.
+    /// The knob, which acts only in MODE 0.
     fn knob_in_every_mode(&mut self) {
         for target in TARGETS {
             for mode in MODES {
@@ -422,7 +423,7 @@ impl Table {
         }
     }
 
-    /// FLT? over LINES, WANT and trips; OUT? and MODE? where at most one line stands.
+    /// FLT? over LINES, WANT and trips; OUT? and MODE? with at most one line set.
     fn faults_told(&mut self) {
         for lines in line_bytes() {
             for supply in outputs(&Supply { lines, ..self.any() }) {

@@ -3,7 +3,7 @@
 use rack_tests::line;
 use rack_tests::supply::{Event, Key, Supply, Target};
 
-/// What the supply answers to a line, without the CR.
+/// What the supply replies to a line, without the CR.
 fn say(supply: &mut Supply, text: &str) -> String {
     let reading = line::read(text.as_bytes(), false);
     let answer = line::obey(supply, reading.said);
@@ -11,7 +11,7 @@ fn say(supply: &mut Supply, text: &str) -> String {
     String::from_utf8_lossy(&reply).trim_end_matches('\r').to_string()
 }
 
-/// Each pair is a line and its answer, in order, on one fresh supply.
+/// Each pair is a line and its reply, in order, on one fresh supply.
 fn expect(model: u8, talk: &[(&str, &str)]) -> Supply {
     let mut supply = Supply::fresh(model);
     for (text, answer) in talk {

@@ -1,5 +1,5 @@
 //! The checks of `calls` can fail: the model stands in for the library, right at first and then
-//! wrong in one thing at a time, and each wrong thing is told by its name.
+//! wrong in one thing at a time, and each wrong thing is reported by its name.
 
 use rack_tests::direct::bench::Tally;
 use rack_tests::direct::forged::fitted_alike;
@@ -93,7 +93,7 @@ fn model_of(rack: &Rack) -> Model {
     }
 }
 
-/// Whether the model has such a rack; it has none of those that are forged.
+/// Whether the model has such a rack; it has none of the forged ones.
 fn known(rack: &Rack) -> bool {
     let modelled = |model: &u8| usize::from(*model) < MODELS.len() || *model == EMPTY;
     rack.models.iter().all(modelled)
@@ -114,7 +114,7 @@ fn put(model: &Model, rack: &mut Rack) {
     rack.line.selected = model.selected.map_or(NOBODY, |slot| slot as u8);
 }
 
-/// What a call was given and what it leaves, for a fault to meddle with.
+/// What a call was given and what it leaves, for a fault to change.
 struct Moment<'a> {
     before: Rack,
     bytes: &'a [u8],
@@ -170,7 +170,7 @@ impl Controller for Wrong {
     }
 }
 
-/// The first check that such a controller fails says this of it.
+/// The report on such a controller says this at the first check that it fails.
 fn tells(checks: &[Check], wrong: &Wrong, said: &str) {
     let mut tally = Tally::default();
     let fault = checks.iter().find_map(|check| (check.judge)(wrong, &mut tally).err());
@@ -197,10 +197,10 @@ fn what_no_call_met_is_told() {
 type WrongCall = fn(&mut Moment);
 type WrongFit = fn(&[u8], &mut Fitted);
 
-/// One wrong controller for each line: what the report must say, and what it does wrong.
+/// One wrong controller per line: what the report must say, and what it does wrong.
 #[rustfmt::skip]
 const CALLS: &[(&str, WrongCall)] = &[
-    // what is told of an accepted field
+    // what is returned for an accepted field
     ("code should be 0 and is 1", |it| if it.accepted() && it.reply.len() == 512 { it.done.code = 1 }),
     ("code should be 0 and is 3", |it| if it.accepted() && it.bytes[0] == 5 { it.done.code = 3 }),
     ("used should be", |it| if it.accepted() { it.done.used = it.bytes.len() }),
@@ -230,7 +230,7 @@ const CALLS: &[(&str, WrongCall)] = &[
     ("the line's mark as spoiled should be", |it| it.rack.line.spoiled = 0),
     ("the address selected should be",
         |it| if it.accepted() && it.rack.line.selected == NOBODY { it.rack.line.selected = 0 }),
-    // refusals: the wrong number, another order, something told or moved
+    // refusals: the wrong number, another order, something returned or changed
     ("code should be 1 and is 2", |it| if it.reply.is_empty() && it.bytes.len() < 3 { it.done.code = 2 }),
     ("code should be 3 and is 4", |it| if it.done.code == 3 && it.bytes[1] > 0 { it.done.code = 4 }),
     ("code should be 4 and is 5", |it| if it.done.code == 4 && it.bytes.len() == 3 { it.done.code = 5 }),
@@ -312,7 +312,7 @@ fn outcome() -> Outcome {
     }
 }
 
-/// What is said of an outcome that was changed like this.
+/// The report on an outcome that was changed like this.
 fn said(change: impl Fn(&mut Outcome)) -> String {
     let mut changed = outcome();
     change(&mut changed);

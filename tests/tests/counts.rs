@@ -1,4 +1,5 @@
-//! Values in volts and amperes as counts: the least count that reads as much, of each model and for each count.
+//! Values in volts and amperes as counts: the smallest count that reads at least as much, for each
+//! model and each count.
 
 use rack_tests::counts::{least_count, units, AMPERES, VOLTS};
 use rack_tests::script::parse;

@@ -1,6 +1,6 @@
-//! The dialogue that the supply is held to (crates/dialogue): that it is the one which the
-//! reference writes today, that each of its lines could have come over the wire, and that nothing
-//! is missing from it.
+//! The dialogue that the supply is compared with (crates/dialogue): that it is what the reference
+//! writes today, that each of its lines could have come over the wire, and that nothing is missing
+//! from it.
 
 use std::collections::HashSet;
 use std::fs;
@@ -84,7 +84,7 @@ fn the_stored_verdict_has_every_reply_and_tells_the_wrong_ones() {
     assert_eq!(verdict, format!("{named}{} replies, {WRONG} wrong\n", exchanges().len()));
 }
 
-/// The file is no larger than the program reads, and a line has no byte that none keeps.
+/// The file is no larger than the program reads, and a line has no byte that a line never keeps.
 #[test]
 fn every_line_could_have_come_over_the_wire() {
     assert!(stored().len() < 200_000);
@@ -108,8 +108,8 @@ fn the_bench_figures_stand_at_the_start() {
     assert!(stored().starts_with(figures));
 }
 
-/// Each word with the codes that lines alone can draw from it, spoiled and wrongly checksummed ones
-/// aside. E07 takes a LINES byte, which no line brings.
+/// Each word with the error codes that lines alone can draw from it, apart from spoiled lines and
+/// wrong checksums. E07 takes a LINES byte, which no line brings.
 const WORDS: [(&str, &[&str]); 31] = [
     ("PV", &["OK", "C02", "C03", "C05", "E01", "E02"]),
     ("PC", &["OK", "C02", "C03", "C05"]),

@@ -1,5 +1,5 @@
-//! The documents against the repository: links and paths lead somewhere, tables agree with the definitions, the
-//! sample session runs, the scripts parse, and the crates are grouped alike.
+//! The documents against the repository: links and paths lead somewhere, tables agree with the
+//! definitions, the sample session runs, the scripts parse, and the crates are grouped alike.
 
 use rack_tests::counts::units;
 use rack_tests::documents::{
@@ -62,8 +62,8 @@ fn tree() -> BTreeSet<String> {
     found
 }
 
-/// A word that can only be a path of the repository: it has a file's ending, or begins with a folder of the top or of
-/// a crate. What is under target/ is made, and stands in no clone.
+/// A word that can only be a path of the repository: it has a file's ending, or begins with a top
+/// folder or a crate's folder. What is under target/ is generated, and is in no clone.
 fn looks_like_a_path(word: &str, tree: &BTreeSet<String>) -> bool {
     let plain = |c: char| c.is_ascii_alphanumeric() || "_-./*".contains(c);
     let endings = [".antt", ".rt", ".rs", ".edit", ".script", ".md", ".txt"];
@@ -75,8 +75,8 @@ fn looks_like_a_path(word: &str, tree: &BTreeSet<String>) -> bool {
         && ((word.contains('/') && known) || endings.iter().any(|ending| word.ends_with(ending)))
 }
 
-/// Whether a path, in which a * stands for anything, is one of the repository's, from its top or from crates/ or from
-/// a crate, or a name of a file anywhere.
+/// Whether a path, in which a * stands for anything, is one of the repository's, from its top or
+/// from crates/ or from a crate, or the name of a file anywhere.
 fn stands(word: &str, tree: &BTreeSet<String>) -> bool {
     let wanted = word.trim_end_matches('/');
     tree.iter().any(|path| {
@@ -167,7 +167,7 @@ fn every_name_that_is_proved_stands_in_a_crate_of_its_row() {
 
 // ---- docs/COMMANDS.md ----
 
-/// The words of a kind of command in the definitions, with what stands behind the kind.
+/// The words of a kind of command in the definitions, with what follows the kind.
 fn words_of(kind: &str) -> BTreeMap<String, String> {
     let text = read("crates/asks/specs/Words.antt");
     let mut found = BTreeMap::new();
@@ -189,7 +189,7 @@ fn defined(text: &str, name: &str, argument: &str) -> String {
     value.unwrap_or_else(|| panic!("no line '{start}'")).to_string()
 }
 
-/// What an order takes, as the page puts it.
+/// What an order takes, in the words of the page.
 fn taken_by(order: &str) -> String {
     let text = read("crates/asks/specs/Words.antt");
     let kind = match order.strip_prefix("set ") {
@@ -361,7 +361,8 @@ fn crates_are_grouped_alike() {
     assert_eq!(layers(), of_page);
 }
 
-/// The crates of each layer in README's picture: behind the layer's name, and on the line below where they go on there.
+/// The crates of each layer in README's picture: after the layer's name, and on the line below if
+/// they continue there.
 #[test]
 fn the_picture_has_every_crate_in_its_layer() {
     let readme = read("README.md");

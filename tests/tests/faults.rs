@@ -1,4 +1,4 @@
-//! The judge of the fault tests: each way to break the rule is found in the log of a run.
+//! The judge of the fault tests: every way to break the rule is found in the log of a run.
 
 use rack_tests::faults::bench::{complaint, list};
 use rack_tests::faults::calls::{judge, Call, Run};

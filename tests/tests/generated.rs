@@ -46,7 +46,7 @@ fn generated_inputs_reach_every_reply_and_refusal() {
     }
 }
 
-/// An order is accepted exactly where the knob would not be brought back.
+/// An order is accepted exactly if the knob would not be brought back.
 #[test]
 fn orders_and_knob_agree_on_every_limit() {
     let mut draw = Draw::new(99);

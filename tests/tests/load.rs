@@ -1,5 +1,5 @@
-//! The inputs for measuring, and how one of them reaches a program: what `load` says of them holds,
-//! and `one_a_read` gives a program one message at each read.
+//! The inputs for measuring, and how one of them reaches a program: what `load` says about them
+//! holds, and `one_a_read` gives a program one message at each read.
 
 use rack_tests::generate::generate;
 use rack_tests::messages::messages;
@@ -44,7 +44,8 @@ fn nothing_of_a_load_is_refused() {
     }
 }
 
-/// The kinds whose fields are all alike: each line is taken, and one to all slots has no answer.
+/// The kinds whose fields are all alike: each line is accepted, and one to all slots draws no
+/// reply.
 #[test]
 fn no_line_of_the_plain_loads_is_at_fault() {
     let set_up = 5 * SLOTS;
@@ -59,7 +60,7 @@ fn no_line_of_the_plain_loads_is_at_fault() {
     }
 }
 
-/// A file that is gone at the end of its test.
+/// A file that is removed at the end of its test.
 struct Input(PathBuf);
 
 impl Input {
@@ -77,7 +78,7 @@ impl Input {
 
 impl Drop for Input {
     fn drop(&mut self) {
-        // What is gone already need not go.
+        // It may be gone already.
         let _ = fs::remove_file(&self.0);
     }
 }

@@ -1,4 +1,4 @@
-//! The program's input in pieces: whatever the cuts, it prints what it prints for the whole, each
+//! The program's input in pieces: however it is split, it prints what it prints for the whole, each
 //! reply with the piece that ends its field, and nothing that a further byte could still change.
 
 use rack_tests::generate::{generate, Draw};

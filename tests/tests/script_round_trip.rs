@@ -23,7 +23,7 @@ fn random_bytes_come_back() {
         let count = draw.below(120) as usize;
         let mut bytes = draw.bytes(count);
         if round % 2 == 0 {
-            // A good fitting list before the rubbish, and small bytes that look like headers.
+            // A good fitting list before the garbage, and small bytes that look like headers.
             bytes.iter_mut().for_each(|byte| *byte %= 20);
             bytes.splice(0..0, [255; 31]);
         }

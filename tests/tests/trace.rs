@@ -1,4 +1,5 @@
-//! docs/TRACE.md against the repository: each file that a row names is there with the names behind it, and so is each case.
+//! docs/TRACE.md against the repository: each file that a row names exists and contains the names
+//! listed after it, and each case exists.
 
 use rack_tests::documents::{has_word, top};
 use std::fs;
@@ -10,7 +11,7 @@ fn rows(text: &str) -> Vec<Vec<String>> {
     text.lines().filter(is_row).map(cells).collect()
 }
 
-/// A cell without what it has in brackets, which is said to a reader and names no place.
+/// A cell without what it has in brackets, which is for the reader and names no place.
 fn remarks_left_out(cell: &str) -> String {
     let mut depth = 0;
     let outside = |c: &char| {
@@ -33,7 +34,8 @@ fn is_file(name: &str) -> bool {
     [".antt", ".rt", ".rs", ".edit"].iter().any(|end| name.ends_with(end))
 }
 
-/// What a cell says of files that is not so: a path is below crates/, and the names up to the next ; stand in its file.
+/// What a cell says about files that is not true: a path is below crates/, and the names up to the
+/// next ; stand in its file.
 fn wrong_places(cell: &str) -> Vec<String> {
     let mut wrong = Vec::new();
     for part in cell.split(';') {
@@ -57,7 +59,7 @@ fn wrong_places(cell: &str) -> Vec<String> {
     wrong
 }
 
-/// Names with hyphens in a last cell, outside the files' parts, that are no case.
+/// Names with hyphens in a last cell, outside the files' parts, that are not cases.
 fn wrong_cases(cell: &str) -> Vec<String> {
     let is_case = |name: &&str| name.contains('-') && !name.contains('/');
     let there = |name: &&str| top().join("tests/cases").join(format!("{name}.script")).exists();

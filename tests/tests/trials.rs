@@ -1,5 +1,5 @@
-//! The table of trials that the supply is tried on (crates/trials): that it is the one which the
-//! reference writes today, that its states are sound, and that nothing is missing from it.
+//! The table of trials that the supply is tried on (crates/trials): that it is what the reference
+//! writes today, that its states are sound, and that nothing is missing from it.
 
 use std::collections::HashSet;
 use std::fs;
@@ -42,7 +42,7 @@ fn every_trial_keeps_limits_and_margins() {
     }
 }
 
-/// What kind of act this is, with whatever has few values.
+/// What kind of act this is, with any operand that has few values.
 fn kind(act: Act) -> String {
     match act {
         Act::Event(Event::Lines(_)) => "lines".into(),

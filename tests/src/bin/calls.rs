@@ -1,14 +1,14 @@
-//! Drives the customers' `fit` and `call` directly: `calls LIBRARY`, a shared object that was made of
-//! target/staticlib/libcapi.a. `src/direct.rs` tells what is compared.
+//! Drives the customers' `fit` and `call` directly: `calls LIBRARY`, a shared object made from
+//! target/staticlib/libcapi.a. `src/direct.rs` says what is compared.
 
 use rack_tests::direct::bench::Tally;
 use rack_tests::direct::library::Library;
 use rack_tests::direct::{checks, faults};
 use std::process::ExitCode;
 
-/// Generated lists beside the others.
+/// How many generated lists are used besides the others.
 const GENERATED: u64 = 10_000;
-/// A wrong controller fails most checks; so many say enough.
+/// A wrong controller fails most checks; this many say enough.
 const MOST_SHOWN: usize = 10;
 
 fn main() -> ExitCode {

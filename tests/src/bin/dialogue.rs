@@ -1,11 +1,12 @@
 //! Writes lines of the serial protocol with the reply that the reference model gives to each, for a
-//! program that holds another supply to the same replies (crates/dialogue). In this folder,
+//! program that compares another supply with these replies (crates/dialogue). In this folder,
 //! `cargo run --bin dialogue > ../crates/dialogue/stdin` renews the stored file.
 //!
-//! An item a line: `model N` begins with a fresh supply; `> TEXT` is a line at its CR and `! TEXT`
-//! one that is spoiled; `< TEXT` is its reply without the CR, and `<` alone says that none comes.
-//! In TEXT a backslash, and every byte that is not printable, stands as \xHH. There is one supply
-//! and no rack: a global is the order that it stands for, and an ADR draws a reply and no more.
+//! Each line is one item: `model N` begins with a fresh supply; `> TEXT` is a line at its CR and `!
+//! TEXT` one that is spoiled; `< TEXT` is its reply without the CR, and `<` alone says that none
+//! comes. In TEXT a backslash, and every byte that is not printable, is written as \xHH. There is
+//! one supply and no rack: a global is the order that it stands for, and an ADR draws a reply and
+//! does nothing else.
 
 use std::io::{self, Write};
 
@@ -68,7 +69,7 @@ const QUERIES: [&str; 14] = [
     "FENA?", "FEVE?",
 ];
 
-/// Numbers, and texts that are none though they look like one.
+/// Numbers, and texts that look like numbers but are not.
 #[rustfmt::skip]
 const NUMBERS: [&[u8]; 64] = [
     b"0", b"5", b"05", b"5.", b".5", b"0.5", b"00.50", b"5.0001", b"5.00009", b"5.00019",
@@ -81,14 +82,14 @@ const NUMBERS: [&[u8]; 64] = [
     b"5\x00", b"\x00", b"5\x7F", b"\x80", b"\xB5", b"5.\xB0", b"5\xFF",
 ];
 
-/// Digits, what stands beside them in the code, and texts that are no single digit.
+/// Digits, their neighbours in the character code, and texts that are not a single digit.
 #[rustfmt::skip]
 const DIGITS: [&[u8]; 24] = [
     b"/", b"0", b"1", b"2", b"3", b"4", b"9", b":", b"00", b"01", b"10", b"1.", b"+1", b" 1", b"1 ",
     b"\t1", b"ON", b"OFF", b"LOC", b"\x00", b"\x01", b"\x7F", b"\xB1", b"\xFF",
 ];
 
-/// Texts that are no address, or a wrong one.
+/// Texts that are not an address, or a wrong one.
 #[rustfmt::skip]
 const NO_ADDRESSES: [&[u8]; 29] = [
     b"/", b":", b"000", b"006", b"030", b"031", b"100", b"255", b"6.", b".6", b"3.0", b"-1", b"+6",
@@ -104,7 +105,7 @@ const NO_HEXADECIMAL: [&[u8]; 24] = [
     b"A\xE1", b"\xFF\xFF",
 ];
 
-/// Words that the paper does not list, and lines that are no word at all.
+/// Words that the paper does not list, and lines that are not a word at all.
 #[rustfmt::skip]
 const UNKNOWN: [&str; 40] = [
     " ", "  ", "\t", "?", "P", "V", " PV 5", " PV?", " ADR 6", " GPV 5", " OVM", "\tPV 5", "\tPV?",
@@ -121,7 +122,7 @@ const DOLLARS: [&str; 29] = [
     "PV?$E5$", "PV? $05", "PV? $E5", "PV?$0E5", "$E5", "$E5PV?", "PV?$$E5",
 ];
 
-/// A talk in which model 3 gives each answer and each code that lines alone can draw.
+/// A talk in which model 3 gives every answer and every error code that lines alone can draw.
 #[rustfmt::skip]
 const ALL_REPLIES: [&str; 50] = [
     "", "PV 10", "PC 2", "UVL 9.5", "OVP 10.5", "PV 9", "PV 10.0001", "PV 99", "OVP 10.4999", "OVP",
@@ -140,7 +141,7 @@ const IN_LOCAL: [&str; 34] = [
     "ADR 5", "PV?", "",
 ];
 
-/// Lines that a supply which is locked out obeys.
+/// Lines that a locked-out supply obeys.
 #[rustfmt::skip]
 const LOCKED_OUT: [&str; 10] = [
     "PV 99", "PC 5", "OUT 1", "OUT 0", "GPV 99", "GPC 5", "GOUT 1", "ADR 5", "RST", "GRST",
@@ -154,7 +155,7 @@ const FILLED: [(&str, u8); 14] = [
     ("CLS ", b' '), ("", 0), ("", 255),
 ];
 
-/// What makes FEVE gain a bit or not, and what then clears it or not.
+/// What does or does not make FEVE gain a bit, and what then does or does not clear it.
 const REGISTERS: [[&str; 2]; 10] = [
     ["FENA 40", "FEVE?"],
     ["FENA ff", "CLS"],
@@ -207,11 +208,11 @@ fn dialogue() -> String {
 }
 
 /// Replies that are wrong on purpose: another figure, one cut short, one too long, none where one
-/// comes, one where none comes. A program that tells none of them compares nothing.
+/// comes, one where none comes. A program that reports none of them compares nothing.
 const WRONG: &str =
     "model 0\n> PV?\n< 0.0001\n> PV?\n< 0.000\n> PV?\n< 0.00000\n> PV?\n<\n> GRST\n< OK\n";
 
-/// The text written so far, and the supply that has heard it.
+/// The text written so far, and the supply that has taken its lines.
 struct Dialogue {
     supply: Supply,
     text: String,
@@ -228,7 +229,7 @@ impl Dialogue {
         self.exchange('>', kept.as_ref(), false);
     }
 
-    /// The same of a line that is spoiled.
+    /// The same for a spoiled line.
     fn spoil(&mut self, kept: impl AsRef<[u8]>) {
         self.exchange('!', kept.as_ref(), true);
     }
@@ -266,7 +267,7 @@ impl Dialogue {
         self.say_all(&QUERIES);
     }
 
-    /// The paper's figures that take nothing but lines.
+    /// The paper's figures that need only lines.
     fn bench_figures(&mut self) {
         let talks: [(u8, &[&str]); 6] = [
             (0, &["PV 6.3", "PV 6.3001"]),
@@ -318,7 +319,7 @@ impl Dialogue {
         self.look();
     }
 
-    /// Words with a letter more, a letter less or a letter changed, and words of other books.
+    /// Words with a letter added, removed or changed, and words from other manuals.
     fn unknown_words(&mut self) {
         self.begin(7);
         for (word, takes) in WORDS {
@@ -342,7 +343,7 @@ impl Dialogue {
         }
     }
 
-    /// Odd bytes before, in and behind each word and its parameter.
+    /// Odd bytes before, in and after each word and its parameter.
     fn odd_bytes(&mut self) {
         for (number, (word, takes)) in WORDS.into_iter().enumerate() {
             let byte = |place: usize| ODD_BYTES[(number + place) % ODD_BYTES.len()];
@@ -353,12 +354,12 @@ impl Dialogue {
             self.say(with_parameter([word.as_bytes(), &[byte(2)]].concat(), parameter));
             self.say(with_parameter(word, &[byte(3)]));
             self.say(ended(&line, [byte(4)]));
-            // Where a word is held as a number, what stands far before its end could be lost.
+            // If a word is held as a number, what stands far before its end could be lost.
             self.say([&[0; 8][word.len()..], &[1], &line[..]].concat());
         }
     }
 
-    /// Sums that are right, wrong and unreadable, behind lines of every kind.
+    /// Checksums that are right, wrong and unreadable, after lines of every kind.
     fn sums(&mut self) {
         self.begin(0);
         for line in [&b""[..], b"PV?", b"OVP 6.5", b"ADR 6", b"\xFF\x80\x00"] {
@@ -390,7 +391,7 @@ impl Dialogue {
         self.every_reply_checksummed();
     }
 
-    /// The checksum is taken off once, and a $ elsewhere is a character like any other.
+    /// The checksum is removed once, and a $ elsewhere is a character like any other.
     fn dollars(&mut self) {
         self.say_all(&DOLLARS);
         for line in ["$", "$$", "$24", "$00", "PV?$E5", "PV 5$1", "FENA $0", "GPV 5$00"] {
@@ -442,7 +443,7 @@ impl Dialogue {
         self.look();
     }
 
-    /// ADR with one, two and three digits, and with what is none.
+    /// ADR with one, two and three digits, and with texts that are not numbers.
     fn addresses(&mut self) {
         self.begin(1);
         for slot in 0..10 {
@@ -455,7 +456,7 @@ impl Dialogue {
         self.look();
     }
 
-    /// Lines as long as they may be, and one less.
+    /// Lines as long as allowed, and one character shorter.
     fn long_lines(&mut self) {
         self.begin(2);
         for length in [LINE_ROOM - 1, LINE_ROOM] {
@@ -524,7 +525,7 @@ impl Dialogue {
         }
     }
 
-    /// RST and GRST out of a supply where everything is set, and MODE? around PC 0.
+    /// RST and GRST on a supply where everything is set, and MODE? around PC 0.
     fn resets(&mut self) {
         for reset in ["RST", "grst ", "GRST 1"] {
             self.begin(3);
@@ -578,7 +579,7 @@ impl Dialogue {
         }
     }
 
-    /// A value within what is allowed just now, or close to it.
+    /// A value within or close to what is allowed at the moment.
     fn drawn_number(&self, target: Target, draw: &mut Draw) -> String {
         let (least, most) = self.supply.range(target);
         let value = match draw.below(4) {
@@ -590,13 +591,13 @@ impl Dialogue {
     }
 }
 
-/// What one supply replies to a line; no bytes where it does not.
+/// What one supply replies to a line; no bytes if it does not reply.
 fn reply_to(supply: &mut Supply, kept: &[u8], spoiled: bool) -> Vec<u8> {
     let reading = line::read(kept, spoiled);
     match reading.whom {
         Whom::Everyone => {
             if let Ok(Said::Order(order)) = reading.said {
-                // Refused or not, nobody says so.
+                // Whether it is refused or not, no reply says so.
                 let _ = supply.order(order);
             }
             Vec::new()
@@ -616,7 +617,7 @@ fn printable(bytes: &[u8]) -> String {
     bytes.iter().map(shown).collect()
 }
 
-/// Parameters that every model takes in this order, where a word has one.
+/// Parameters that every model accepts in this order, where a word takes one.
 fn good(takes: Takes) -> [&'static str; 3] {
     match takes {
         Nothing => [""; 3],
@@ -645,14 +646,14 @@ fn checksummed(line: &[u8]) -> Vec<u8> {
     ended(line, format!("${:02X}", checksum(line)))
 }
 
-/// A line filled up to this length.
+/// A line padded to this length.
 fn filled(start: &str, filler: u8, length: usize) -> Vec<u8> {
     let mut line = start.as_bytes().to_vec();
     line.resize(length, filler);
     line
 }
 
-/// Small and capital letters in turn, beginning with a small one at every other turn.
+/// Small and capital letters in turn, beginning with a small one every other time.
 fn mixed(word: &str, turn: usize) -> String {
     let letter = |(at, letter): (usize, char)| match (at + turn) % 2 {
         0 => letter.to_ascii_lowercase(),
@@ -661,7 +662,7 @@ fn mixed(word: &str, turn: usize) -> String {
     word.chars().enumerate().map(letter).collect()
 }
 
-/// The query that tells what an order changes; a query itself.
+/// The query that shows what an order changes; for a query, the query itself.
 fn query_of(word: &str) -> String {
     match word.to_uppercase().as_str() {
         "OVM" => "OVP?".into(),
@@ -681,7 +682,7 @@ fn setting(target: Target, value: i64) -> (&'static str, String) {
     }
 }
 
-/// A byte replaced, taken out or put in.
+/// A byte replaced, removed or inserted.
 fn garble(line: &mut Vec<u8>, draw: &mut Draw) {
     let at = draw.below(line.len() as u64) as usize;
     let any = Some(draw.any() as u8).filter(|byte| !NEVER_KEPT.contains(byte)).unwrap_or(b'$');

@@ -1,6 +1,6 @@
-//! The program on streams that fail, fill up, run dry and hang up: `faults PROGRAM`. What must hold
-//! is told in `src/faults.rs`. The library that answers reads and writes by a plan (`inject`) and the
-//! program `load` are taken from where this program was built.
+//! The program on streams that fail, fill up, run dry and hang up: `faults PROGRAM`.
+//! `src/faults.rs` says what must hold. The library that answers reads and writes by a plan
+//! (`inject`) and the program `load` are taken from where this program was built.
 
 use rack_tests::faults::bench::Bench;
 use rack_tests::faults::{cases, stack, Case};

@@ -1,14 +1,14 @@
 //! Long inputs for measuring: `load KIND FIELDS SLOTS SEED` writes one to standard output. Nothing
-//! in it is refused, so that a program works all of it. The first fields of a longer input are the
+//! in it is refused, so a program works all of it. The first fields of a longer input are the
 //! shorter input of the same kind, slots and seed. The kinds:
 //!
 //! samples: counts from the cells with the outputs on, and now and then a trip, a line or a key;
-//! serial: lines of orders and queries, some with sums, and seldom a global one;
+//! serial: lines of orders and queries, some with checksums, and rarely a global;
 //! mixed: all five tags;
-//! query: a query with CR LF in each field, and seldom an ADR;
-//! order: an order with CR LF in each field, and seldom an ADR;
-//! queries: three queries in each field, and seldom an ADR;
-//! checksummed: a query with its checksum in each field, and seldom an ADR;
+//! query: a query with CR LF in each field, and rarely an ADR;
+//! order: an order with CR LF in each field, and rarely an ADR;
+//! queries: three queries in each field, and rarely an ADR;
+//! checksummed: a query with its checksum in each field, and rarely an ADR;
 //! global: a line to all slots in each field.
 
 use rack_tests::generate::Draw;
@@ -42,22 +42,22 @@ const KINDS: [(&str, Kind); 8] = [
 ];
 
 const FIELD_ROOM: usize = 16;
-/// Counts that are surely below PC as the set-up leaves it, and one that is above.
+/// Counts that are certainly below PC as the set-up leaves it, and one that is above.
 const BELOW_PC: u64 = 39_000;
 const ABOVE_PC: u16 = 45_000;
-/// Counts up to the rating are below OVP at its most.
+/// Counts up to the rating are below the highest OVP.
 const RATING: u64 = 50_000;
 
-/// What every model takes, in ticks and mA: 80 % of the least rating of all.
+/// What every model accepts, in ticks and mA: 80 % of the lowest rating of all.
 const ALL_TAKE_VOLTS: i64 = 48_000;
 const ALL_TAKE_AMPERES: i64 = 1_040;
 
 const QUERIES: [&str; 8] = ["PV?", "PV?", "PV?", "MV?", "MV?", "MC?", "OUT?", "FLT?"];
-/// Queries that a figure answers, which is most of what a board asks.
+/// Queries that are answered with a figure, which are most of what a board asks.
 const FIGURES: [&str; 4] = ["PV?", "PC?", "MV?", "MC?"];
 const GLOBALS: [&str; 4] = ["GPV 4", "GPC 1", "GOUT 1", "GRST"];
 
-/// Lines whose number or word is at fault; the supply says so and the list goes on.
+/// Lines with a wrong number or word; the supply says so and the list goes on.
 const FAULTY: [&str; 4] = ["PV 999", "PV x", "VOLT 5", "OVP 0"];
 
 struct Load<W: Write> {
@@ -118,7 +118,7 @@ fn write(kind: Kind, fields: u64, slots: usize, seed: u64) -> io::Result<()> {
     load.out.flush()
 }
 
-/// Slots spread over the rack with slot 30 among them, of all models in turn.
+/// Slots spread over the rack, including slot 30, with all models in turn.
 fn fitting_list(slots: usize) -> Vec<u8> {
     let mut list = vec![EMPTY; SLOTS];
     for number in 0..slots {
@@ -132,7 +132,7 @@ fn with_checksum(text: &str) -> String {
 }
 
 impl<W: Write> Load<W> {
-    /// Writes a field, until as many are written as are wanted.
+    /// Writes a field, until the wanted number is written.
     fn field(&mut self, tag: u8, payload: &[u8]) -> io::Result<()> {
         if self.left == 0 {
             return Ok(());
@@ -169,7 +169,8 @@ impl<W: Write> Load<W> {
         self.say("OUT 1")
     }
 
-    /// The same settings and readings for each model, so that an answer is as long in any slot.
+    /// The same settings and readings for each model, so that an answer has the same length in any
+    /// slot.
     fn set_up_alike(&mut self, slot: usize) -> io::Result<()> {
         let model = self.supply(slot).limits();
         let count = |wanted: i64, rating: i64| (wanted * RATING as i64 / rating) as u16;
@@ -230,7 +231,7 @@ impl<W: Write> Load<W> {
         self.field(5, &[&[slot as u8], &counts[..]].concat())
     }
 
-    /// In remote mode a key does nothing but LOCAL; the next order takes the supply back.
+    /// In remote mode only the LOCAL key does anything; the next order takes the supply back.
     fn key(&mut self, slot: usize) -> io::Result<()> {
         let key = self.draw.below(3) as u8;
         self.field(2, &[slot as u8, key])
@@ -262,8 +263,8 @@ impl<W: Write> Load<W> {
         }
     }
 
-    /// What a field of the kinds has in which all are alike. An ADR now and then has all slots
-    /// spoken to.
+    /// A field of the kinds whose fields are all alike. An occasional ADR reaches all slots in
+    /// time.
     fn line(&mut self, kind: Kind) -> String {
         let text = match kind {
             Kind::Global => self.global(),
@@ -286,7 +287,7 @@ impl<W: Write> Load<W> {
         }
     }
 
-    /// Settings that every slot takes, so that none says no in silence.
+    /// Settings that every slot accepts, so that none refuses silently.
     fn global(&mut self) -> String {
         match self.draw.below(10) {
             0..=3 => format!("GPV {}", volts_text(self.draw.between(0, ALL_TAKE_VOLTS))),
@@ -313,7 +314,7 @@ impl<W: Write> Load<W> {
         self.field(3, &[&[slot as u8, target], &step.to_be_bytes()[..]].concat())
     }
 
-    /// Lines that stand fall again soon, so that most outputs can be turned on.
+    /// Lines that are set fall again soon, so that most outputs can be turned on.
     fn lines(&mut self, slot: usize) -> io::Result<()> {
         let lines = match self.supply(slot).lines {
             0 => self.draw.any() as u8 & LINE_BITS,

@@ -1,6 +1,6 @@
 //! A program that gets one field at each read: `one_a_read INPUT PROGRAM [ARGUMENT..]` starts it,
-//! feeds it the file's fitting list and then its fields, each as a message of its own, and ends as
-//! the program ends.
+//! feeds it the file's fitting list and then its fields, each as a message of its own, and ends
+//! when the program ends.
 
 use rack_tests::messages::feed;
 use std::fs;

@@ -11,15 +11,15 @@ use rack_tests::{cases, outside, script};
 use std::process::ExitCode;
 use std::time::Duration;
 
-/// Generated lists that are sent beside the named ones and the readable cases.
+/// How many generated lists are sent besides the named ones and the readable cases.
 const GENERATED: u64 = 60;
-/// A program that keeps its replies back costs a long wait for each list; so many are enough.
+/// A program that holds its replies back costs a long wait for each list; this many are enough.
 const MOST_FAILED: usize = 3;
-/// How often a named list is held up to see that nothing is printed too early, and how long.
+/// How often a named list is paused to see that nothing is printed too early, and for how long.
 const LOOKS: usize = 6;
 const LOOK: Duration = Duration::from_millis(20);
 
-/// A byte that is no model, in a list of otherwise empty slots.
+/// A byte that is not a model, in a list of otherwise empty slots.
 const BAD_FIRST: &str = "raw-fit 0C FFFFFFFFFFFFFFFFFFFF FFFFFFFFFFFFFFFFFFFF FFFFFFFFFFFFFFFFFFFF
     line ADR 6";
 const BAD_MIDDLE: &str =
@@ -115,7 +115,7 @@ const NAMED: [(&str, &str); 17] = [
     ("a bad model at the end", BAD_LAST),
 ];
 
-/// One list to send, and how often to look for something printed too early.
+/// One list to send, and how often to look for output that comes too early.
 struct List {
     name: String,
     input: Vec<u8>,
@@ -184,7 +184,8 @@ fn judge(program: &str, list: &List) -> Result<(), String> {
     }
 }
 
-/// A fitting list with a bad byte may be refused from that byte on, and must be at its last.
+/// A fitting list with a bad byte may be refused from that byte on, and must be refused at its
+/// last.
 fn refuse_list(live: &mut Live, input: &[u8], bad: usize) -> Result<(), String> {
     for (at, byte) in input.iter().take(SLOTS).enumerate() {
         let open = live.send(*byte)?;
@@ -199,7 +200,7 @@ fn refuse_list(live: &mut Live, input: &[u8], bad: usize) -> Result<(), String> 
     live.expect_end()
 }
 
-/// After each byte just what the reference prints by then, and no byte of it later.
+/// After each byte, exactly what the reference prints by then, with no byte of it late.
 fn talk(live: &mut Live, list: &List) -> Result<(), String> {
     let mut model = Running::default();
     let apart = list.input.len() / (list.looks + 1) + 1;
@@ -224,7 +225,7 @@ fn still_open(open: bool) -> Result<(), String> {
     open.then_some(()).ok_or("the program reads no more".into())
 }
 
-/// Where in the list it was, counted from 1.
+/// The position in the list, counted from 1.
 fn at_byte(at: usize) -> impl Fn(String) -> String {
     move |what| format!("at byte {}, {what}", at + 1)
 }

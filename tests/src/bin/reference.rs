@@ -1,5 +1,5 @@
-//! The reference model as a program: standard input to standard output, as the paper's program.
-//! It takes what is there in blocks and prints the replies before it waits for more.
+//! The reference model as a program: from standard input to standard output, like the paper's
+//! program. It reads in blocks and prints the replies before it waits for more.
 
 use rack_tests::program::Running;
 use std::io::{self, Read, Write};

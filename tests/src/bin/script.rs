@@ -1,5 +1,5 @@
 //! Scripts: `script to-fields`, `script to-script` and `script run PROGRAM`, all from standard
-//! input to standard output. The exit status of `run` is 1 where program and reference differ.
+//! input to standard output. The exit status of `run` is 1 if program and reference differ.
 
 use rack_tests::{script, table};
 use std::io::{self, Read, Write};

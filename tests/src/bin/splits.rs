@@ -1,5 +1,6 @@
-//! One list with all five tags, cut after every byte, and with a byte put in, changed or taken out
-//! at every place: `splits PROGRAM`. Each run must print byte for byte what the reference prints.
+//! One list with all five tags, split after every byte, and with a byte inserted, changed or
+//! removed at every place: `splits PROGRAM`. Each run must print byte for byte what the reference
+//! prints.
 
 use rack_tests::{outside, program, script};
 use std::process::ExitCode;
@@ -11,10 +12,10 @@ const WORKERS: usize = 2;
 const SLOTS: usize = 31;
 /// How often the line of a long list comes.
 const MANY: usize = 20_000;
-/// So many faults are shown with their lists; the rest are only counted.
+/// This many faults are shown with their lists; the rest are only counted.
 const MOST_SHOWN: usize = 5;
 
-/// Lines split over fields, fields amid a line, both trips, sums, globals, an empty slot.
+/// Lines split over fields, fields within a line, both trips, checksums, globals, an empty slot.
 const BODY: &str = r#"
     fit 2 6
     fit 6 0
@@ -53,7 +54,7 @@ const BODY: &str = r#"
     text "PV?\rGRST\rPV?\rRMT?"
 "#;
 
-/// What may stand at the end of the body: one ending for each refusal of a field, and none.
+/// What may come at the end of the body: one ending for each refusal of a field, and none.
 const ENDINGS: [&str; 9] = [
     "line\nline PV?",
     "bytes 00 00 02 06 00 01",
@@ -87,7 +88,7 @@ fn main() -> ExitCode {
     ExitCode::from(u8::from(!faults.is_empty()))
 }
 
-/// Every input with a name that tells how it was made.
+/// Every input, with a name that says how it was made.
 fn inputs() -> Result<Vec<(String, Vec<u8>)>, String> {
     let body = script::parse(BODY.as_bytes())?.bytes();
     let mut inputs = Vec::new();
@@ -109,7 +110,8 @@ fn inputs() -> Result<Vec<(String, Vec<u8>)>, String> {
     Ok(inputs)
 }
 
-/// One line over and over: more bytes than one read brings, and more replies than wait for each other.
+/// One line over and over: more bytes than one read brings, and more replies than are written at
+/// once.
 fn many(line: &str) -> Result<Vec<u8>, String> {
     let mut list = script::parse(b"fit 6 11\nline ADR 6\nline PV 600")?.bytes();
     let again = script::parse(format!("fit 6 11\ntext \"{line}\\r\"").as_bytes())?.bytes();
@@ -119,7 +121,7 @@ fn many(line: &str) -> Result<Vec<u8>, String> {
     Ok(list)
 }
 
-/// The list with a byte put in, changed or taken out at this place.
+/// The list with a byte inserted, changed or removed at this place.
 fn changed(list: &[u8], at: usize) -> [(String, Vec<u8>); 4] {
     let with = |bytes: &[u8], after: usize| [&list[..at], bytes, &list[after..]].concat();
     let name = |what: &str| format!("byte {} {what}", at + 1);

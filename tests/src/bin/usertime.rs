@@ -1,18 +1,18 @@
 //! How long two programs compute on the same file: `usertime RUNS INPUT PROGRAM OTHER` runs them in
-//! turn, so many times each and with their output thrown away. It prints the median of either's user
-//! times in microseconds and the median of the ratios, one program's run by the other's next to it.
-//! With `--one-a-read` before all that, each of their reads brings one field of the file.
+//! turn, this many times each, and discards their output. It prints the median user time of each in
+//! microseconds and the median of the ratios of one program's run to the other's next to it. With
+//! `--one-a-read` in front, each of their reads brings one field of the file.
 
 use rack_tests::messages::feed;
 use std::fs::{self, File};
 use std::io;
 use std::process::{Command, ExitCode, ExitStatus, Stdio};
 
-/// How a command gets the input of this path.
+/// How a command gets the input at this path.
 type Way = fn(&mut Command, &str) -> io::Result<ExitStatus>;
 
-/// The kernel's account of the children that have ended, as Linux on x86-64 lays it out: seconds
-/// and microseconds of user time, the same of system time, and 14 numbers not used here.
+/// The kernel's account of the children that have ended, in the layout of Linux on x86-64: seconds
+/// and microseconds of user time, the same for system time, and 14 numbers not used here.
 mod account {
     const ENDED_CHILDREN: i32 = -1;
 
@@ -70,7 +70,7 @@ fn on_messages(command: &mut Command, input: &str) -> io::Result<ExitStatus> {
     feed(command, &fs::read(input)?)
 }
 
-/// Run by run, so that a busy minute of the machine meets both.
+/// Run by run, so that a busy minute of the machine affects both.
 fn in_turn(
     way: Way,
     runs: u32,

@@ -9,14 +9,14 @@ use super::outcome::{difference, name_of, parted, Outcome, State, FENCE};
 
 /// Buffers that are too small: every field is tried with each of them first.
 pub const SMALL: [usize; 3] = [0, 1, 511];
-/// Buffers that are taken, in turn.
+/// Buffers that are accepted, in turn.
 pub const LARGE: [usize; 4] = [512, 513, 600, 4096];
 const NO_SUPPLIES: [u8; SLOTS] = [EMPTY; SLOTS];
 const TAGS: std::ops::RangeInclusive<u8> = 1..=5;
-/// The refusals of a call that a buffer of any size can draw if it is taken.
+/// The refusals that a call can draw with any accepted buffer.
 const REFUSALS: std::ops::RangeInclusive<u8> = 2..=7;
 
-/// What all calls so far met.
+/// What all calls so far covered.
 #[derive(Default)]
 pub struct Tally {
     pub calls: u64,
@@ -27,7 +27,7 @@ pub struct Tally {
 }
 
 impl Tally {
-    /// The first thing that no call met.
+    /// The first thing that no call covered.
     pub fn missing(&self) -> Option<String> {
         let kinds = |numbers: std::ops::RangeInclusive<u8>| {
             numbers.flat_map(|number| LARGE.map(|room| (number, room)))
@@ -52,7 +52,7 @@ pub struct Bench<'a> {
 }
 
 impl<'a> Bench<'a> {
-    /// Fits the list and compares what comes of it; a refused list gives a rack of empty slots.
+    /// Fits the list and compares the results; a refused list gives a rack of empty slots.
     pub fn fit(
         controller: &'a dyn Controller,
         tally: &'a mut Tally,
@@ -65,7 +65,7 @@ impl<'a> Bench<'a> {
         };
         let model = Model::fit(models).map_err(|code| format!("the model refuses with {code}"))?;
         let fitted = State::of(&made.rack);
-        // What stands in an empty slot is for the library to say, but always the same.
+        // The library may choose what an empty slot holds, but it must always be the same.
         let bare = State::of(&controller.fit(&NO_SUPPLIES).rack);
         let wanted = State::wanted(&model, &bare, &fitted).with_models(models);
         let fault = parted(&[code], &[made.code], |_| "code".into())
@@ -82,8 +82,8 @@ impl<'a> Bench<'a> {
         &self.model
     }
 
-    /// One call on both racks, everything compared; answers the code. What stands in memory behind
-    /// the lent bytes must not count.
+    /// One call on both racks, with everything compared; returns the code. Memory after the lent
+    /// bytes must make no difference.
     pub fn call(&mut self, bytes: &[u8], behind: &[u8], room: usize) -> Result<u8, String> {
         let number = self.tally.calls;
         self.tally.calls += 1;
@@ -97,7 +97,7 @@ impl<'a> Bench<'a> {
         Ok(wanted.code)
     }
 
-    /// What the model says the call must come to; a refusal leaves all as it was.
+    /// What the model says the call must return; a refusal leaves everything as it was.
     fn wanted(&mut self, bytes: &[u8], room: usize, unmoved: Outcome, seen: &State) -> Outcome {
         match self.model.call(bytes, room) {
             Err(code) => Outcome { code, ..unmoved },
@@ -127,14 +127,14 @@ impl<'a> Bench<'a> {
         }
     }
 
-    /// The next of the buffers that are taken.
+    /// The next of the accepted buffers.
     pub fn next_room(&self) -> usize {
         LARGE[self.tally.calls as usize % LARGE.len()]
     }
 }
 
-/// A call of the first bytes, with the others behind them in memory: how all would be if it changed
-/// nothing and told nothing, and how it is.
+/// A call with the first bytes, the others following them in memory: how all would be if it changed
+/// nothing and returned nothing, and how it is.
 pub fn called(
     controller: &dyn Controller,
     rack: &mut Rack,
@@ -157,12 +157,12 @@ pub fn called(
     (unmoved, Outcome { code, used, length, buffer, lent, state: State::of(rack) })
 }
 
-/// Bytes to fill a buffer with: at each place another byte than in the call before.
+/// Bytes to fill a buffer with: at each place a byte different from that in the call before.
 fn pattern(call: u64, count: usize) -> Vec<u8> {
     (0..count as u64).map(|at| (at * 151 + (at >> 8) * 7 + call * 97 + 13) as u8).collect()
 }
 
-/// The first bytes of a list, to tell it by.
+/// The first bytes of a list, to identify it.
 pub fn hexadecimal(bytes: &[u8]) -> String {
     const SHOWN: usize = 40;
     let shown: Vec<String> = bytes.iter().take(SHOWN).map(|byte| format!("{byte:02X}")).collect();

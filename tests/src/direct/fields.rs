@@ -1,4 +1,4 @@
-//! Fields by their bytes: whole ones, and all the ways in which one goes wrong.
+//! Fields by their bytes: complete ones, and all the ways in which one goes wrong.
 
 use crate::rack::{Rack as Model, SLOTS};
 use crate::script;
@@ -13,18 +13,18 @@ pub fn lengths(tag: u8) -> std::ops::RangeInclusive<usize> {
     }
 }
 
-/// A field with this tag and payload, its length as told.
+/// A field with this tag and payload, with the given length.
 pub fn field(tag: u8, length: usize, payload: &[u8]) -> Vec<u8> {
     let length = u16::try_from(length).expect("a length of two bytes").to_be_bytes();
     [&[tag], &length[..], payload].concat()
 }
 
-/// Whether these bytes are one field that a controller may take, and no more.
+/// Whether these bytes are exactly one field that a controller may accept.
 pub fn whole(bytes: &[u8]) -> bool {
     script::field_length(bytes) == Some(bytes.len())
 }
 
-/// The bytes of a script's line as fields; what is none stays together.
+/// The bytes of a script's line as fields; what is not a field stays together.
 pub fn split(mut bytes: &[u8]) -> Vec<Vec<u8>> {
     let mut fields = Vec::new();
     while let Some(used) = script::field_length(bytes) {
@@ -37,7 +37,7 @@ pub fn split(mut bytes: &[u8]) -> Vec<Vec<u8>> {
     fields
 }
 
-/// What a key, a target or a LINES byte must not be.
+/// Values that a key, a target or a LINES byte must not have.
 pub fn bad_values(tag: u8) -> &'static [u8] {
     match tag {
         2 => &[3, 4, 128, 255],
@@ -47,7 +47,7 @@ pub fn bad_values(tag: u8) -> &'static [u8] {
     }
 }
 
-/// A whole field with one thing wrong, and the refusal that this draws on such a rack.
+/// A complete field with one thing wrong, and the refusal that this draws on such a rack.
 pub fn spoiled(whole: &[u8], model: &Model) -> Vec<(Vec<u8>, u8)> {
     let with = |at: usize, byte: u8| {
         let mut bytes = whole.to_vec();

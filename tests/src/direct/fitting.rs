@@ -10,7 +10,7 @@ use super::library::Controller;
 use super::Check;
 
 const KNOWN: std::ops::Range<u8> = 0..MODELS.len() as u8;
-/// Lists drawn by chance, good ones and bad ones.
+/// Random lists, good ones and bad ones.
 const DRAWN: u64 = 500;
 
 pub fn checks() -> Vec<Check> {
@@ -84,7 +84,8 @@ fn by_chance(controller: &dyn Controller, tally: &mut Tally) -> Result<(), Strin
     Ok(())
 }
 
-/// No slot is fitted there: events are refused with 6, serial bytes are taken and nobody replies.
+/// No slot is fitted there: events are refused with 6, serial bytes are accepted and nobody
+/// replies.
 fn calls_after_a_refusal(controller: &dyn Controller, tally: &mut Tally) -> Result<(), String> {
     let mut bench = Bench::fit(controller, tally, &[0; SLOTS - 1])?;
     for (room, address) in LARGE.into_iter().cycle().zip(0..=255) {

@@ -1,5 +1,6 @@
-//! Racks that no fitting list and no call made, with anything in their fields. The answer to a field
-//! is free there, but a call still ends and writes nowhere else, and a refusal is as on any rack.
+//! Racks that no fitting list and no call made, with anything in their fields. What a field returns
+//! is not specified there, but a call still ends and writes nowhere else, and a refusal is as on
+//! any rack.
 
 use crate::generate::{generate, Draw};
 use crate::line::LINE_ROOM;
@@ -12,7 +13,7 @@ use super::outcome::{difference, Outcome, FENCE};
 use super::Check;
 
 const RACKS: u64 = 400;
-/// So many calls are made of each, one after the other.
+/// This many calls are made on each, one after another.
 const CALLS: usize = 40;
 
 pub fn check() -> Check {
@@ -41,7 +42,7 @@ fn one_rack(controller: &dyn Controller, tally: &mut Tally, number: u64) -> Resu
     Ok(())
 }
 
-/// As seen, but for what no call may write: the bytes lent, and those around the buffer.
+/// As seen, except for what no call may write: the lent bytes, and those around the buffer.
 fn free(unmoved: Outcome, seen: &Outcome) -> Outcome {
     let mut buffer = unmoved.buffer;
     let inside = FENCE..buffer.len() - FENCE;
@@ -49,13 +50,13 @@ fn free(unmoved: Outcome, seen: &Outcome) -> Outcome {
     Outcome { buffer, lent: unmoved.lent, ..seen.clone() }
 }
 
-/// A rack of the model with supplies in the same slots, which is all that refusals ask of one.
+/// A rack of the model with supplies in the same slots; refusals depend on nothing else.
 pub fn fitted_alike(rack: &Rack) -> Model {
     let list = rack.models.map(|model| if model == EMPTY { EMPTY } else { 0 });
     Model::fit(&list).expect("a list of known models")
 }
 
-/// What is true or false is so here too: another byte would be none of the language's values.
+/// A bool is true or false here too: any other byte would not be a value of the language.
 fn forge(draw: &mut Draw) -> Rack {
     let counts = [0, 1, LINE_ROOM - 1, LINE_ROOM, LINE_ROOM + 1, 1000, usize::MAX];
     let mut line = Line {

@@ -1,4 +1,4 @@
-//! The library `capi` as a program in C or Rust meets it: its structs declared once more, and its
+//! The library `capi` as a program in C or Rust sees it: its structs declared once more, and its
 //! two functions, taken from a shared object.
 
 use std::ffi::{c_char, c_int, c_void, CStr, CString};
@@ -8,7 +8,7 @@ use std::os::unix::ffi::OsStrExt;
 use crate::line::LINE_ROOM;
 use crate::rack::SLOTS;
 
-/// A supply; what is true or false is a byte here, so that no other value of it goes unseen.
+/// A supply; a bool is a byte here, so that any other value is noticed.
 #[repr(C)]
 #[derive(Clone, Copy)]
 pub struct Supply {
@@ -38,7 +38,7 @@ pub struct Line {
     pub selected: u8,
 }
 
-/// Bytes between the fields are not defined, so racks are compared field by field only.
+/// Bytes between the fields are not defined, so racks are compared only field by field.
 #[repr(C)]
 #[derive(Clone, Copy)]
 pub struct Rack {
@@ -69,7 +69,7 @@ const _: () = assert!(size_of::<Rack>() == 1104 && align_of::<Rack>() == 8);
 const _: () = assert!(size_of::<Fitted>() == 1112 && size_of::<Done>() == 24);
 const _: () = assert!(offset_of!(Supply, volt_count) == 26 && offset_of!(Rack, models) == 1072);
 
-/// Whoever makes racks and works calls on them.
+/// Anything that makes racks and works calls on them.
 pub trait Controller {
     fn fit(&self, list: &[u8]) -> Fitted;
     fn call(&self, rack: &mut Rack, bytes: &[u8], reply: &mut [u8]) -> Done;
@@ -86,7 +86,7 @@ const ALL_AT_ONCE: c_int = 2;
 type Fit = unsafe extern "C" fn(*const u8, usize) -> Fitted;
 type Call = unsafe extern "C" fn(*mut Rack, *const u8, usize, *mut u8, usize) -> Done;
 
-/// The two functions of a shared object that was made of target/staticlib/libcapi.a.
+/// The two functions of a shared object made from target/staticlib/libcapi.a.
 pub struct Library {
     fit: Fit,
     call: Call,
@@ -94,7 +94,7 @@ pub struct Library {
 
 impl Library {
     pub fn open(path: &str) -> Result<Library, String> {
-        // Without a folder in its name it would be looked for among the system's libraries.
+        // Without a folder in its name, it would be looked for among the system's libraries.
         let whole = std::fs::canonicalize(path).map_err(|error| format!("{path}: {error}"))?;
         let name = CString::new(whole.as_os_str().as_bytes()).map_err(|error| error.to_string())?;
         // SAFETY: the name ends with NUL; the object is never closed.
@@ -116,9 +116,9 @@ fn symbol(object: *mut c_void, name: &CStr) -> Result<*mut c_void, String> {
     (!found.is_null()).then_some(found).ok_or_else(complaint)
 }
 
-/// What the loader has to say about the last failure.
+/// What the loader says about the last failure.
 fn complaint() -> String {
-    // SAFETY: the loader answers a text of its own, or null.
+    // SAFETY: the loader returns a text of its own, or null.
     let text = unsafe { dlerror() };
     if text.is_null() {
         return "the loader gives no reason".into();
@@ -129,12 +129,12 @@ fn complaint() -> String {
 
 impl Controller for Library {
     fn fit(&self, list: &[u8]) -> Fitted {
-        // SAFETY: the pointer leads to as many bytes as are told.
+        // SAFETY: the pointer leads to as many bytes as given.
         unsafe { (self.fit)(list.as_ptr(), list.len()) }
     }
 
     fn call(&self, rack: &mut Rack, bytes: &[u8], reply: &mut [u8]) -> Done {
-        // SAFETY: each pointer leads to as many bytes as are told, and no two overlap.
+        // SAFETY: each pointer leads to as many bytes as given, and no two overlap.
         unsafe { (self.call)(rack, bytes.as_ptr(), bytes.len(), reply.as_mut_ptr(), reply.len()) }
     }
 }

@@ -1,4 +1,5 @@
-//! Lists of fields, one field a call: the readable cases, a full rack with globals, generated ones.
+//! Lists of fields, one field per call: the readable cases, a full rack with globals, generated
+//! ones.
 
 use crate::cases;
 use crate::generate::{generate, Draw};
@@ -11,10 +12,10 @@ use super::fields::{split, spoiled, whole};
 use super::library::Controller;
 use super::Check;
 
-/// Generated lists are numbered from here, apart from those of the comparison of programs.
+/// Generated lists are numbered from here, apart from those for comparing programs.
 const FIRST_SEED: u64 = 75_000;
 
-/// Each supply judges a global for itself; what follows one shows that all of them were told.
+/// Each supply judges a global for itself; what follows shows that all of them received it.
 const GLOBALS: &str = r#"
     line GFENA FF            # no such order, and nobody to say so
     line GPC 1
@@ -76,7 +77,7 @@ pub fn checks(generated: u64) -> Result<Vec<Check>, String> {
     Ok(checks)
 }
 
-/// The script, its fields by a call each; a field that is refused does not end it here.
+/// The script, with a call for each field; a refused field does not end it here.
 fn one_by_one(
     controller: &dyn Controller,
     tally: &mut Tally,
@@ -93,7 +94,7 @@ fn one_by_one(
     Ok(())
 }
 
-/// The field with a small buffer, cut short and spoiled in every way: nothing may come of it.
+/// The field with a small buffer, cut short and made wrong in every way: nothing may change.
 fn refused_first(bench: &mut Bench, field: &[u8]) -> Result<(), String> {
     for room in SMALL {
         bench.draws(field, room, 1)?;
@@ -114,7 +115,7 @@ fn refused_first(bench: &mut Bench, field: &[u8]) -> Result<(), String> {
     Ok(())
 }
 
-/// A whole field as it is, or with something behind it in the same call.
+/// A complete field as it is, or followed by something else in the same call.
 fn with_more(field: &[u8], next: &[u8], turn: usize) -> Vec<u8> {
     let junk = vec![0xA5; 600];
     let more: [&[u8]; 5] = [&[], next, &[1], field, &junk];

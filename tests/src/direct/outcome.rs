@@ -1,5 +1,5 @@
-//! What a call comes to, as numbers in one fixed order: of the library, and of the model. Two such
-//! outcomes are compared number by number, so that whatever differs has a name.
+//! The outcome of a call, as numbers in one fixed order: for the library, and for the model. Two
+//! such outcomes are compared number by number, so whatever differs has a name.
 
 use std::fmt::Display;
 
@@ -57,8 +57,9 @@ impl State {
         State(all)
     }
 
-    /// What the model's rack comes to. The papers say nothing of an empty slot and of characters
-    /// that are not kept: the first stays as `fitted` has it, the other may be as `seen` has it.
+    /// The numbers of the model's rack. The papers say nothing about an empty slot or about
+    /// characters that are not kept: the first stays as in `fitted`, the others may be as in
+    /// `seen`.
     pub fn wanted(model: &Model, fitted: &State, seen: &State) -> State {
         let mut all = fitted.0;
         for (slot, supply) in model.slots.iter().enumerate() {
@@ -76,7 +77,7 @@ impl State {
         State(all)
     }
 
-    /// The same rack made of these models.
+    /// The same rack, built from these models.
     pub fn with_models(mut self, models: &[u8]) -> State {
         let places = self.0[MODELS_AT..KEPT_AT].iter_mut();
         places.zip(models).for_each(|(at, model)| *at = u64::from(*model));
@@ -144,10 +145,10 @@ pub fn name_of(at: usize) -> String {
     }
 }
 
-/// So many bytes stand on either side of a buffer, and are looked at too.
+/// This many bytes stand on either side of a buffer, and are checked too.
 pub const FENCE: usize = 64;
 
-/// What a call left: what it answered, the buffer within its fence, the bytes lent, the rack.
+/// What a call left: what it returned, the buffer within its fence, the lent bytes, the rack.
 #[derive(Clone, Debug)]
 pub struct Outcome {
     pub code: u8,
@@ -175,7 +176,7 @@ pub fn difference(wanted: &Outcome, seen: &Outcome) -> Option<String> {
         .or_else(|| parted(&wanted.state.0, &seen.state.0, name_of))
 }
 
-/// The first place where two lists of numbers part, by its name.
+/// The first place where two lists of numbers differ, by its name.
 pub fn parted<T: PartialEq + Display>(
     wanted: &[T],
     seen: &[T],

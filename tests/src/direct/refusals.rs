@@ -1,5 +1,5 @@
-//! The causes of refusal: each value that draws one, several at once, and bytes behind a field.
-//! What must come of a call is said here from 01's table, and compared with the model besides.
+//! The causes of refusal: each value that draws one, several at once, and bytes after a field. What
+//! a call must return is stated here from 01's table, and also compared with the model.
 
 use crate::rack::{EMPTY, SLOTS};
 use crate::supply::LINE_BITS;
@@ -14,7 +14,7 @@ const TAGS: std::ops::RangeInclusive<u8> = 1..=5;
 const FITTED: [(u8, u8); 4] = [(0, 3), (6, 0), (17, 6), (30, 11)];
 /// The one that the fields name.
 const SLOT: u8 = 6;
-/// As many ways to be wrong are tried for each cause.
+/// This many ways to be wrong are tried for each cause.
 const WAYS: usize = 5;
 
 pub fn checks() -> Vec<Check> {
@@ -45,7 +45,7 @@ fn begun<'a>(controller: &'a dyn Controller, tally: &'a mut Tally) -> Result<Ben
     Ok(bench)
 }
 
-/// A payload that each tag takes.
+/// A payload that each tag accepts.
 fn payload(tag: u8) -> &'static [u8] {
     match tag {
         1 => b"?\rPC?\r",
@@ -115,7 +115,7 @@ fn each_value(controller: &dyn Controller, tally: &mut Tally) -> Result<(), Stri
     Ok(())
 }
 
-/// The rest of the field stands in memory behind what is lent, and must not be taken from there.
+/// The rest of the field follows in memory after what is lent, and must not be read from there.
 fn each_cut(controller: &dyn Controller, tally: &mut Tally) -> Result<(), String> {
     let mut bench = begun(controller, tally)?;
     for tag in TAGS {
@@ -137,7 +137,7 @@ fn each_cut(controller: &dyn Controller, tally: &mut Tally) -> Result<(), String
     Ok(())
 }
 
-/// Every size up to the least that is taken, and some beyond.
+/// Every size up to the shortest that is accepted, and some beyond.
 fn each_size(controller: &dyn Controller, tally: &mut Tally) -> Result<(), String> {
     let mut bench = begun(controller, tally)?;
     for room in (0..=520).chain([1000, 1023, 1024, 4095, 4096, 65_535, 65_536, 100_000]) {
@@ -149,7 +149,7 @@ fn each_size(controller: &dyn Controller, tally: &mut Tally) -> Result<(), Strin
     Ok(())
 }
 
-/// A call works its first field and no more, whatever stands behind that.
+/// A call works only its first field, whatever follows it.
 fn bytes_behind(controller: &dyn Controller, tally: &mut Tally) -> Result<(), String> {
     let mut bench = begun(controller, tally)?;
     for tag in TAGS {
@@ -167,7 +167,7 @@ fn bytes_behind(controller: &dyn Controller, tally: &mut Tally) -> Result<(), St
     Ok(())
 }
 
-/// Every set of causes that one call can have: the first of them by number is the refusal.
+/// Every set of causes that one call can have: the one with the lowest number is the refusal.
 fn causes_together(controller: &dyn Controller, tally: &mut Tally, tag: u8) -> Result<(), String> {
     let mut bench = begun(controller, tally)?;
     for set in 0..128_u8 {
@@ -184,7 +184,7 @@ fn causes_together(controller: &dyn Controller, tally: &mut Tally, tag: u8) -> R
     Ok(())
 }
 
-/// A field with just these causes of refusal, 2 to 7; none where the tag knows no such cause.
+/// A field with exactly these causes of refusal, 2 to 7; none if the tag has no such cause.
 fn wrong_field(tag: u8, has: impl Fn(u8) -> bool, way: usize) -> Option<Vec<u8>> {
     let pick = |bytes: &[u8]| (!bytes.is_empty()).then(|| bytes[way % bytes.len()]);
     let mut payload = payload(tag).to_vec();
@@ -199,7 +199,7 @@ fn wrong_field(tag: u8, has: impl Fn(u8) -> bool, way: usize) -> Option<Vec<u8>>
         let (least, most) = (*lengths(tag).start(), *lengths(tag).end());
         length = [most + 1, least - 1, most + 256, 65_535, 0][way % WAYS];
     }
-    // What is behind a payload that is too long for its length does not count.
+    // Whatever follows a payload that is too long for its length makes no difference.
     payload.resize(payload.len().max(length), 0);
     if has(5) {
         payload.truncate([length.checked_sub(1)?, 0, length / 2][way % 3]);

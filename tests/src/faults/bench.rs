@@ -1,5 +1,5 @@
-//! What all fault tests share: the program under test, the tools beside it, files that are gone at
-//! the end, and what must stand on standard error.
+//! What all fault tests share: the program under test, the tools beside it, files that are removed
+//! at the end, and what must stand on standard error.
 
 use std::ffi::OsString;
 use std::fs::{self, File};
@@ -13,7 +13,7 @@ use crate::program::Running;
 use crate::script;
 use crate::system::{self, Before};
 
-/// The two streams by the names that the program gives them.
+/// The two streams, by the names that the program gives them.
 pub const STREAMS: [&str; 2] = ["standard input", "standard output"];
 
 pub struct Bench {
@@ -38,12 +38,12 @@ impl Bench {
         }
     }
 
-    /// What answers reads and writes by a plan.
+    /// The library that answers reads and writes by a plan.
     pub fn library(&self) -> PathBuf {
         self.tools.join("libinject.so")
     }
 
-    /// A name for a file that nobody else has.
+    /// A unique name for a file.
     pub fn file(&self) -> PathBuf {
         self.folder.join(self.files.fetch_add(1, Ordering::Relaxed).to_string())
     }
@@ -55,7 +55,7 @@ impl Bench {
         open.map_err(|error| format!("{}: {error}", path.display()))
     }
 
-    /// The program, its standard error going to a file.
+    /// The program, with its standard error going to a file.
     pub fn command(&self, steps: &[Before]) -> Result<(Command, Said), String> {
         let said = Said(self.file());
         let mut command = Command::new(&self.program);
@@ -91,7 +91,7 @@ impl Said {
         fs::read_to_string(&self.0).map_err(|error| format!("standard error: {error}"))
     }
 
-    /// All that was said must be this.
+    /// Standard error must contain exactly this.
     pub fn expect(&self, wanted: &str) -> Result<(), String> {
         match self.text()? {
             said if said == wanted => Ok(()),
@@ -100,7 +100,7 @@ impl Said {
     }
 }
 
-/// The line that tells of a stream (0 or 1) that failed for good.
+/// The line that reports a stream (0 or 1) that failed for good.
 pub fn complaint(stream: usize, errno: i32) -> String {
     format!("{}: error {errno}\n", STREAMS[stream])
 }
@@ -110,7 +110,7 @@ pub fn list(script: &str) -> Vec<u8> {
     script::parse(script.as_bytes()).expect("the tests' own scripts can be read").bytes()
 }
 
-/// Waits for the program's end, which must be soon; it is stopped where it is not.
+/// Waits for the program's end, which must come soon; stops it if it does not.
 pub fn end_of(child: &mut Child) -> Result<ExitStatus, String> {
     let until = Instant::now() + PATIENCE;
     while Instant::now() < until {
@@ -123,7 +123,7 @@ pub fn end_of(child: &mut Child) -> Result<ExitStatus, String> {
     Err(format!("no end within {PATIENCE:?} (stopped: {})", stopped.is_ok()))
 }
 
-/// The program must have ended by itself, and with 0: a fault shows on standard error alone.
+/// The program must have ended by itself, with exit status 0: a fault shows only on standard error.
 pub fn expect_zero(status: ExitStatus) -> Result<(), String> {
     match status.code() {
         Some(0) => Ok(()),
@@ -131,8 +131,8 @@ pub fn expect_zero(status: ExitStatus) -> Result<(), String> {
     }
 }
 
-/// Sends a list in pieces and looks after each for the replies to it, and for so long that nothing
-/// else comes. The input stays open.
+/// Sends a list in pieces, and after each checks that the replies to it come, and for this long
+/// that nothing else does. The input stays open.
 pub fn talk<'a>(
     live: &mut Live,
     model: &mut Running,
@@ -153,7 +153,7 @@ pub fn talk<'a>(
     Ok(())
 }
 
-/// Bytes as a message shows them, which need not be all.
+/// Bytes as a message shows them, possibly not all.
 pub fn shown(bytes: &[u8]) -> String {
     const MOST: usize = 200;
     match bytes.len() {

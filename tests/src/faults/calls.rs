@@ -1,6 +1,6 @@
 //! One run of the program with its reads and writes answered by plans, and the log of those calls
-//! held against the model: at each call it is known what was read, what that draws, and what of it
-//! is out.
+//! compared with the model: at each call it is known what was read, what that draws, and how much
+//! of it was written.
 
 use std::fs::{self, File};
 
@@ -8,7 +8,8 @@ use super::bench::{complaint, end_of, expect_zero, shown, Bench, STREAMS};
 use crate::program::Running;
 use crate::system::{EAGAIN, EINTR};
 
-/// What a call of the program asked for and what it got: bytes moved, or an errno with a minus.
+/// What a call of the program asked for and what it got: bytes moved, or an errno with a minus
+/// sign.
 #[derive(Clone, Copy, Debug, PartialEq, Eq)]
 pub struct Call {
     /// 0 for a read of standard input, 1 for a write to standard output.
@@ -16,7 +17,7 @@ pub struct Call {
     pub answer: i64,
 }
 
-/// The plans of one run, as the library reads them; an empty one lets all calls through.
+/// The plans of one run, as the library reads them; an empty plan lets all calls through.
 #[derive(Clone, Debug, Default)]
 pub struct Plans {
     pub reads: String,
@@ -32,13 +33,13 @@ pub struct Run {
 }
 
 impl Run {
-    /// How often a call of this stream was answered so.
+    /// How often a call on this stream was answered like this.
     pub fn count(&self, stream: usize, answer: i64) -> usize {
         self.calls.iter().filter(|call| **call == Call { stream, answer }).count()
     }
 }
 
-/// Runs the program on a file, its output going to another.
+/// Runs the program on a file, with its output going to another.
 pub fn run(bench: &Bench, input: &[u8], plans: &Plans) -> Result<Run, String> {
     let wrong = |error: std::io::Error| error.to_string();
     let (output, log) = (bench.file(), bench.file());
@@ -61,12 +62,12 @@ fn call(line: &str) -> Option<Call> {
     Some(Call { stream: stream as usize, answer })
 }
 
-/// Where the model stands between two calls.
+/// The state of the model between two calls.
 #[derive(Default)]
 struct Trail {
     model: Running,
     read: usize,
-    /// What the bytes read so far draw, the refusal too where there is one.
+    /// What the bytes read so far draw, including the refusal if there is one.
     drawn: Vec<u8>,
     written: usize,
     /// The stream that failed for good and the errno.
@@ -100,7 +101,7 @@ impl Trail {
         }
     }
 
-    /// So many bytes were read; none is the end of the input.
+    /// This many bytes were read; none means the end of the input.
     fn take(&mut self, count: usize, input: &[u8]) -> Result<(), String> {
         if self.model.over() {
             return Err("it reads on after its last reply".into());
@@ -133,7 +134,7 @@ impl Trail {
     }
 }
 
-/// Holds a run against the model, call by call and then as a whole.
+/// Compares a run with the model, call by call and then as a whole.
 pub fn judge(run: &Run, input: &[u8]) -> Result<(), String> {
     let mut trail = Trail::default();
     for (at, call) in run.calls.iter().enumerate() {

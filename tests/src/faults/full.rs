@@ -1,4 +1,4 @@
-//! Output to pipes, sockets and lines that do not block and that are full for now: the program waits
+//! Output to pipes, sockets and lines that do not block and are full for now: the program waits
 //! until someone reads, and loses nothing.
 
 use std::io::{self, ErrorKind, PipeReader, Read};
@@ -18,7 +18,7 @@ use crate::system::{narrow, never_wait, Before, Line, EPIPE, SIGPIPE};
 
 /// What a narrow pipe holds.
 const NARROW: i32 = 4096;
-/// How long nobody reads at first, so that all is full.
+/// How long nobody reads at first, so that everything fills up.
 const UNREAD: Duration = Duration::from_millis(200);
 /// Four queries in each field, and two orders before them.
 const FIELDS: usize = 20_000;
@@ -42,8 +42,8 @@ fn many() -> Vec<u8> {
     input
 }
 
-/// The program with all its input there and its output going where nobody waits: neither it at the
-/// far end nor, for a program that hangs, this test at the near one.
+/// The program with all its input there and its output going to a stream that does not block,
+/// neither for the program at the far end nor, if the program hangs, for this test at the near end.
 fn before(
     bench: &Bench,
     near: &impl AsRawFd,
@@ -67,7 +67,7 @@ fn before_pipe(bench: &Bench, steps: &[Before]) -> Result<(Child, PipeReader, Sa
 }
 
 /// Reads a little at a time until the end or until there are enough bytes; at every moment those
-/// read must be a beginning of what is wanted. Answers how many there were.
+/// read must be a prefix of what is wanted. Returns how many there were.
 fn read_slowly(mut near: impl Read, wanted: &[u8], enough: usize) -> Result<usize, String> {
     let (mut block, mut got) = ([0; 1000], 0);
     let mut until = Instant::now() + PATIENCE;
@@ -89,7 +89,7 @@ fn read_slowly(mut near: impl Read, wanted: &[u8], enough: usize) -> Result<usiz
     Ok(got)
 }
 
-/// All the lines must come, and no byte more.
+/// All the lines must come, and not a byte more.
 fn read_all(mut child: Child, mut near: impl Read, said: &Said) -> Result<(), String> {
     let wanted = program::run(&many());
     let lines = |bytes: &[u8]| bytes.iter().filter(|byte| **byte == b'\n').count();
@@ -117,7 +117,8 @@ fn slow_socket(bench: &Bench) -> Result<(), String> {
     read_all(child, near, &said)
 }
 
-/// The far end stays open here, as a line may lose what is on its way when the last one closes it.
+/// The far end stays open here, as a line may lose what is on its way when the last descriptor
+/// closes.
 fn slow_line(bench: &Bench) -> Result<(), String> {
     let wrong = |error: io::Error| error.to_string();
     let Line { near, far } = Line::open(1, 0).map_err(wrong)?;
@@ -135,7 +136,7 @@ fn reader_leaves(bench: &Bench) -> Result<(), String> {
     let (mut child, near, said) = before_pipe(bench, &[Before::Ignore(SIGPIPE)])?;
     let enough = 10 * NARROW as usize;
     let got = read_slowly(&near, &program::run(&many()), enough);
-    // Some time without room, so that the program waits when its reader leaves.
+    // Some time without room, so that the program is waiting when its reader leaves.
     sleep(UNREAD);
     drop(near);
     let status = end_of(&mut child)?;

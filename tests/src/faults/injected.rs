@@ -1,5 +1,5 @@
 //! Reads and writes that are answered by a plan: faults that come at one call and not at another,
-//! or that go away again, which no file or pipe can be made to do.
+//! or that go away again, which no file or pipe can be made to produce.
 
 use super::bench::{list, shown, Bench};
 use super::calls::{judge, run, Plans, Run};
@@ -7,7 +7,7 @@ use super::Case;
 use crate::program;
 use crate::system::{EAGAIN, EBADF, EINTR, EIO, EISDIR, ENOSPC, EPIPE, LAST_ERRNO};
 
-/// A reading that is cut behind its first digit, and one that would go on where it was cut.
+/// A reading that is cut after its first digit, and one that would continue where it was cut.
 const TWO_READINGS: &str = "fit 6 3
     line ADR 6
     line PV 12.5
@@ -18,14 +18,14 @@ const TWO_READINGS: &str = "fit 6 3
 /// Reads that bring one field of that list each, so that each reply is written by itself.
 const FIELD_BY_FIELD: &str = "31 9 11 9 7 9 7 again";
 
-/// An end amid a field, so that a refusal is printed at the end of the input.
+/// An end in the middle of a field, so that a refusal is printed at the end of the input.
 const CUT_SHORT: &str = "fit 6 0\nline ADR 6\nline PV?\nbytes 01 00 06 50 56 3F 0D";
-/// A refusal with input behind it.
+/// A refusal with input after it.
 const REFUSED: &str = "fit 6 0\nline ADR 6\nline PV?\nbytes 09 00 02 06 00\nline PV?";
 const BAD_LIST: &str = "raw-fit 0C FFFFFFFFFFFFFFFFFFFF FFFFFFFFFFFFFFFFFFFF FFFFFFFFFFFFFFFFFFFF
     line ADR 6";
 
-/// Plans by name for the reads and for the writes, none of which may show. 4 is EINTR, 11 EAGAIN.
+/// Plans by name for the reads and for the writes; none of them may show. 4 is EINTR, 11 EAGAIN.
 const PASSING: [(&str, &str, &str); 15] = [
     ("nothing out of the ordinary", "", ""),
     ("reads of one byte", "1 again", ""),
@@ -44,7 +44,7 @@ const PASSING: [(&str, &str, &str); 15] = [
     ("all of it", "e4 3 e11 40 e4 again", "e11 1 e4 3 e4 9 again"),
 ];
 
-/// Where a read may fail for good: in the list, behind it, between fields, amid one.
+/// Where a read may fail for good: in the list, after it, between fields, within one.
 const READ_PLACES: [(&str, &str); 6] = [
     ("at once", ""),
     ("amid the list", "9"),
@@ -54,7 +54,8 @@ const READ_PLACES: [(&str, &str); 6] = [
     ("amid a payload", "31 9 5 e4"),
 ];
 
-/// Where a write may: before anything is out, behind a line, amid a line, after an interruption.
+/// Where a write may: before anything is written, after a line, within a line, after an
+/// interruption.
 const WRITE_PLACES: [(&str, &str); 5] = [
     ("at once", ""),
     ("behind a line", "3"),
@@ -63,7 +64,7 @@ const WRITE_PLACES: [(&str, &str); 5] = [
     ("with the output full for now before", "3 1 e11*2"),
 ];
 
-/// For how many calls a fault stays; afterwards all would go well again.
+/// For how many calls a fault lasts; afterwards all would go well again.
 pub const STAYS: [&str; 3] = ["", "*2", "*100000"];
 
 pub fn cases() -> Vec<Case> {
@@ -83,7 +84,7 @@ pub fn cases() -> Vec<Case> {
     cases
 }
 
-/// Lists that end in each way, one of them amid the fitting list, and a longer one.
+/// Lists that end in each way, one of them within the fitting list, and a longer one.
 fn inputs(bench: &Bench) -> Result<Vec<Vec<u8>>, String> {
     let mut inputs = [TWO_READINGS, CUT_SHORT, REFUSED, BAD_LIST, "fit 6 0"].map(list).to_vec();
     inputs.push(inputs[0][..20].to_vec());
@@ -113,7 +114,7 @@ pub fn unseen(bench: &Bench, input: &[u8], plans: &Plans) -> Result<Run, String>
     }
 }
 
-/// More than the program keeps at a time, on either side.
+/// More than the program holds at a time, on either side.
 fn many_in_parts(bench: &Bench) -> Result<(), String> {
     let input = bench.load("queries", [20_000, 31, 750])?;
     let plans = Plans {
@@ -125,7 +126,7 @@ fn many_in_parts(bench: &Bench) -> Result<(), String> {
 
 // ---- what does not ----
 
-/// The first reading is cut; were the second to follow it, a line would tell of 10.5 volts.
+/// The first reading is cut; if the second followed it, a line would say 10.5 volts.
 fn room_again(bench: &Bench) -> Result<(), String> {
     let input = list(TWO_READINGS);
     let plans = Plans { reads: FIELD_BY_FIELD.into(), writes: "go go go 1 e28 go".into() };
@@ -185,7 +186,7 @@ pub fn fatal(
     }
 }
 
-/// A read that brings nothing is the end of an input that is no terminal, and no fault.
+/// A read that brings nothing is the end of an input that is not a terminal, and not a fault.
 fn ended() -> Vec<Case> {
     let case = |(place, before): (&'static str, &'static str)| {
         Case::new(format!("the input ends {place}"), move |bench| {
@@ -198,7 +199,7 @@ fn ended() -> Vec<Case> {
     READ_PLACES.into_iter().map(case).collect()
 }
 
-/// Byte by byte as far as each place and no further, for lists that end in each way.
+/// Byte by byte up to each place and no further, for lists that end in each way.
 fn every_byte(bench: &Bench, stream: usize) -> Result<(), String> {
     for input in [TWO_READINGS, CUT_SHORT, REFUSED, BAD_LIST].map(list) {
         let plans = |plan: String| match stream {
@@ -218,7 +219,7 @@ pub fn passes_by_itself(errno: i32) -> bool {
     [EINTR, EAGAIN].contains(&errno)
 }
 
-/// The line on standard error has the right text for each, and none but two is tried again.
+/// The line on standard error has the right text for each, and only two are tried again.
 fn every_errno(bench: &Bench, stream: usize) -> Result<(), String> {
     let input = list(TWO_READINGS);
     for errno in (1..=LAST_ERRNO).filter(|errno| !passes_by_itself(*errno)) {

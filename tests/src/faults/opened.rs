@@ -1,5 +1,6 @@
-//! Streams that are at fault from the start or by themselves: a device without room, a pipe that
-//! nobody reads, a limit on a file's size, descriptors that are closed or not open for it, a folder.
+//! Streams that are faulty from the start or by themselves: a device without room, a pipe that
+//! nobody reads, a limit on a file's size, descriptors that are closed or not open for the purpose,
+//! a folder.
 
 use std::fs::{self, File};
 use std::io::{self, Write};
@@ -14,7 +15,7 @@ use crate::system::{EBADF, EFBIG, EIO, EISDIR, ENOSPC, EPIPE};
 use crate::system::{FILE_SIZE, SIGPIPE, SIGXFSZ};
 
 const QUERY: &str = "fit 6 3\nline ADR 6\nline PV 12.5\nline PV?";
-/// Nothing in it is answered, as nobody is selected.
+/// It draws no reply, as nobody is selected.
 const SILENT: &str = "fit 6 0\nline PV?\nkey 6 OUTPUT";
 const IGNORING: &[Before] = &[Ignore(SIGPIPE)];
 
@@ -55,7 +56,7 @@ fn inputs() -> Vec<Case> {
             input_fails(bench, File::options().write(true).open("/dev/null"), &[], EBADF)
         }),
         Case::new("a folder as input", move |bench| input_fails(bench, folder(), &[], EISDIR)),
-        // No process has memory at address 0, so that a read there fails as one of a bad disk does.
+        // No process has memory at address 0, so a read there fails like one from a bad disk.
         Case::new("input that cannot be read", |bench| {
             input_fails(bench, File::open("/proc/self/mem"), &[], EIO)
         }),
@@ -81,13 +82,13 @@ fn inputs() -> Vec<Case> {
     ]
 }
 
-/// A pipe's writing end whose reader is gone.
+/// The writing end of a pipe whose reader is gone.
 fn unread() -> io::Result<Stdio> {
     let (_, writer) = io::pipe()?;
     Ok(writer.into())
 }
 
-/// The program must end though its input stays open, and say why.
+/// The program must end although its input stays open, and say why.
 fn output_fails(
     bench: &Bench,
     output: io::Result<impl Into<Stdio>>,
@@ -120,7 +121,7 @@ fn input_fails(
     }
 }
 
-/// All the replies and nothing on standard error.
+/// All the replies, and nothing on standard error.
 fn good_end(bench: &Bench, input: &[u8]) -> Result<(), String> {
     let printed = run(bench, Ok(bench.file_of(input)?), &[], "")?;
     match printed == program::run(input) {
@@ -129,7 +130,7 @@ fn good_end(bench: &Bench, input: &[u8]) -> Result<(), String> {
     }
 }
 
-/// What the program prints to a file; this must stand on standard error.
+/// What the program prints to a file; standard error must contain this.
 fn run(
     bench: &Bench,
     input: io::Result<impl Into<Stdio>>,
@@ -153,7 +154,7 @@ fn limited(bench: &Bench, room: u64) -> Result<(), String> {
     let wrong = |error: io::Error| error.to_string();
     let output = bench.file();
     let (mut command, _) = bench.command(&steps)?;
-    // Standard error goes to a pipe, as the limit is on all files.
+    // Standard error goes to a pipe, as the limit applies to all files.
     let (mut said, far) = io::pipe().map_err(wrong)?;
     command.stdin(bench.file_of(&input)?).stdout(File::create(&output).map_err(wrong)?);
     let mut child = command.stderr(far).spawn().map_err(wrong)?;
@@ -177,7 +178,7 @@ fn closed_and_unused(bench: &Bench) -> Result<(), String> {
     said.expect("")
 }
 
-/// Without the ignoring the system ends the program, which says nothing.
+/// If the signal is not ignored, the system ends the program, which says nothing.
 fn killed(bench: &Bench) -> Result<(), String> {
     let (mut command, said) = bench.command(&[])?;
     let output = unread().map_err(|error| error.to_string())?;
@@ -189,7 +190,7 @@ fn killed(bench: &Bench) -> Result<(), String> {
     }
 }
 
-/// With both outputs gone it ends all the same.
+/// With both outputs gone it still ends.
 fn nobody_to_tell(bench: &Bench) -> Result<(), String> {
     let (mut command, said) = bench.command(&[Close(1), Close(2)])?;
     command.stdin(bench.file_of(&list(QUERY))?);

@@ -1,5 +1,5 @@
-//! Random plans, made from seeds: for each a run in which nothing may show, and one more with a fault
-//! for good at one of its calls.
+//! Random plans, made from seeds: for each a run in which nothing may show, and another with a
+//! lasting fault at one of its calls.
 
 use super::bench::Bench;
 use super::calls::Plans;
@@ -8,7 +8,7 @@ use super::Case;
 use crate::generate::{generate, Draw};
 use crate::system::{EAGAIN, EINTR, ENOSPC, LAST_ERRNO};
 
-/// Plans are made for so many inputs, in groups that are a case each.
+/// Plans are made for this many inputs, in groups that are one case each.
 const GROUPS: u64 = 15;
 const IN_A_GROUP: u64 = 10;
 const KINDS: [&str; 8] =
@@ -36,7 +36,7 @@ fn random(bench: &Bench, seed: u64) -> Result<(), String> {
     if count == 0 {
         return Ok(());
     }
-    // Up to the fault the second run goes as the first, so that the fault comes.
+    // Up to the fault the second run goes like the first, so the fault is reached.
     let at = draw.below(count as u64) as usize;
     let before: Vec<_> = words[stream].iter().cycle().take(at).cloned().collect();
     let errno = errno(&mut draw);
@@ -48,7 +48,7 @@ fn random(bench: &Bench, seed: u64) -> Result<(), String> {
     fatal(bench, &input, stream, errno, &failing).map_err(|what| format!("seed {seed}, {what}"))
 }
 
-/// In turn a load, which is worked to its end, and a list that may be refused anywhere.
+/// Alternately a load, which is worked to its end, and a list that may be refused anywhere.
 fn input(bench: &Bench, draw: &mut Draw, seed: u64) -> Result<Vec<u8>, String> {
     match seed % 2 {
         0 => bench.load(draw.pick(&KINDS), [50 + draw.below(250), 1 + draw.below(31), seed]),
@@ -63,7 +63,7 @@ fn errno(draw: &mut Draw) -> i32 {
     }
 }
 
-/// Words of a plan, one for a call; the last lets some bytes through, so that the run goes on.
+/// Words of a plan, one for each call; the last lets some bytes through, so that the run goes on.
 fn words(draw: &mut Draw) -> Vec<String> {
     let most = draw.pick(&[1, 4, 20, 100]);
     let mut words: Vec<_> = (0..draw.below(24)).map(|_| word(draw, most)).collect();
@@ -71,7 +71,7 @@ fn words(draw: &mut Draw) -> Vec<String> {
     words
 }
 
-/// EAGAIN is seldom, as the program may wait a millisecond for each.
+/// EAGAIN is rare, as the program may wait a millisecond for each.
 fn word(draw: &mut Draw, most: u64) -> String {
     match draw.below(100) {
         0..=3 => format!("e{EAGAIN}"),

@@ -1,4 +1,5 @@
-//! How much stack the program takes: a limit under which it must work, and the least that does.
+//! How much stack the program takes: a limit under which it must work, and the smallest that
+//! suffices.
 
 use std::fs::{self, File};
 use std::path::Path;
@@ -8,9 +9,10 @@ use super::Case;
 use crate::program;
 use crate::system::{Before, ENOSPC, STACK};
 
-/// What it must get by with, as `ulimit -s` counts.
+/// What must be enough for it, as `ulimit -s` counts.
 const ENOUGH_KIB: u64 = 48;
-/// The system starts a stack at a random place within some KiB, so that once is not always.
+/// The system starts a stack at a random place within some KiB, so one success does not prove
+/// another.
 const RUNS: usize = 10;
 /// Limits are tried in pages.
 const PAGE_KIB: u64 = 4;
@@ -21,7 +23,7 @@ pub fn cases() -> Vec<Case> {
             let input = input(bench)?;
             (0..RUNS).try_for_each(|_| works(bench, &input, ENOUGH_KIB))
         }),
-        // What reports a fault takes stack of its own.
+        // Reporting a fault takes stack of its own.
         Case::new(format!("a fault on a stack of {ENOUGH_KIB} KiB"), |bench| {
             let (input, line) = (input(bench)?, complaint(1, ENOSPC));
             let full = Path::new("/dev/full");
@@ -34,8 +36,8 @@ fn input(bench: &Bench) -> Result<Vec<u8>, String> {
     bench.load("mixed", [3_000, 31, 750])
 }
 
-/// Runs the program on such a stack; this must stand on standard error. There is no environment, as
-/// that lies on the stack too.
+/// Runs the program on such a stack; standard error must contain this. There is no environment, as
+/// that is on the stack too.
 fn run(
     bench: &Bench,
     input: &[u8],
@@ -60,7 +62,7 @@ fn works(bench: &Bench, input: &[u8], kib: u64) -> Result<(), String> {
     }
 }
 
-/// The least stack on which it works each time, in words.
+/// The smallest stack on which it works every time, in words.
 pub fn least(bench: &Bench) -> String {
     let Ok(input) = input(bench) else { return "no load to try stacks with".into() };
     let each_time = |kib| (0..RUNS).all(|_| works(bench, &input, kib).is_ok());

@@ -1,5 +1,5 @@
 //! A serial line as input. On one whose reads do not wait (VMIN 0), a read that brings nothing is
-//! not the end. A line that hangs up is a fault: a field that is cut off by it is not refused.
+//! not the end. A line that hangs up is a fault: a field that it cuts off is not refused.
 
 use std::fs::File;
 use std::io;
@@ -39,9 +39,9 @@ const MODES: [Mode; 5] = [
     Mode { least: 0, time: 0, non_blocking: true },
     Mode { least: 1, time: 0, non_blocking: true },
 ];
-/// A read that does not wait is seldom the one that the hang-up meets, so it is done so many times.
+/// A read that does not wait rarely meets the hang-up itself, so this is done this many times.
 const HANG_UPS: usize = 40;
-/// From the near end of a line to the far one a byte may take some time.
+/// A byte may take some time from the near end of a line to the far end.
 const ON_ITS_WAY: Duration = Duration::from_millis(50);
 
 pub fn cases() -> Vec<Case> {
@@ -84,7 +84,8 @@ fn on_line(bench: &Bench, mode: Mode) -> Result<OnLine, String> {
     Ok((Live::between(child, near, output), far, said))
 }
 
-/// A pseudo-terminal that hangs up loses what was not read yet, so that must not be.
+/// A pseudo-terminal that hangs up loses what has not been read yet, so everything must be read
+/// first.
 fn all_read(far: &File) -> Result<(), String> {
     sleep(ON_ITS_WAY);
     let until = Instant::now() + PATIENCE;
@@ -97,8 +98,8 @@ fn all_read(far: &File) -> Result<(), String> {
     Err("it does not read on".into())
 }
 
-/// The line hangs up behind the last byte. A read that the hang-up meets is answered EIO, and those
-/// behind it bring nothing: either way nothing more is printed, and the EIO is told.
+/// The line hangs up after the last byte. A read that meets the hang-up returns EIO, and later ones
+/// bring nothing: either way nothing more is printed, and the EIO is reported.
 fn hang_up((mut live, _, said): OnLine) -> Result<(), String> {
     live.close();
     live.expect_end()?;
@@ -114,7 +115,7 @@ fn hangs_up(bench: &Bench, mode: Mode, input: &[u8]) -> Result<(), String> {
     hang_up(on_line)
 }
 
-/// The reply shows that all was read; the program reads on meanwhile, in one way or the other.
+/// The reply shows that all was read; meanwhile the program reads on, in one way or the other.
 fn again_and_again(bench: &Bench, mode: Mode) -> Result<(), String> {
     for _ in 0..HANG_UPS {
         let mut on_line = on_line(bench, mode)?;
@@ -125,7 +126,7 @@ fn again_and_again(bench: &Bench, mode: Mode) -> Result<(), String> {
     Ok(())
 }
 
-/// Before the list, amid it and amid a field.
+/// Before the list, within it and within a field.
 fn idle(bench: &Bench, mode: Mode) -> Result<(), String> {
     let mut on_line = on_line(bench, mode)?;
     let mut model = Running::default();
@@ -139,7 +140,7 @@ fn idle(bench: &Bench, mode: Mode) -> Result<(), String> {
     hang_up(on_line)
 }
 
-/// How soon replies come where a read before them brought nothing.
+/// How soon replies come if a read before them brought nothing.
 fn soon(bench: &Bench, mode: Mode) -> Result<(), String> {
     let mut on_line = on_line(bench, mode)?;
     let mut model = Running::default();
@@ -172,7 +173,7 @@ fn hung_up_before(bench: &Bench) -> Result<(), String> {
     said.expect(&complaint(0, EIO))
 }
 
-/// A refusal ends it, as a line whose near end is read has nobody to hang it up.
+/// A refusal ends it, because on a line whose near end is still read nobody hangs up.
 fn both_ways(bench: &Bench, mode: Mode) -> Result<(), String> {
     let wrong = |error: io::Error| error.to_string();
     let Line { near, far } = open(mode).map_err(wrong)?;

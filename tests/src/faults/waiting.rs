@@ -1,4 +1,4 @@
-//! Input from pipes and sockets that do not block, with someone slow at the other end: the program
+//! Input from pipes and sockets that do not block, with a slow writer at the other end: the program
 //! waits, and computes nothing while it does.
 
 use std::io;
@@ -16,12 +16,12 @@ use crate::program::Running;
 use crate::rack::SLOTS;
 use crate::system::{computed, never_wait, send_signal, SIGCONT, SIGSTOP};
 
-/// How long nothing comes behind a piece of the input.
+/// How long nothing follows a piece of the input.
 pub const PAUSE: Duration = Duration::from_millis(3);
-/// The program is watched for so long while it waits, and may compute for so long meanwhile.
+/// The program is watched for this long while it waits, and may compute for this long meanwhile.
 const WATCHED: Duration = Duration::from_secs(1);
 const COMPUTES: Duration = Duration::from_millis(200);
-/// So many times a reply is waited for, which may take so long all in all.
+/// A reply is waited for this many times, which may take this long in total.
 const ROUNDS: u32 = 50;
 const SOON: Duration = Duration::from_secs(1);
 
@@ -37,7 +37,7 @@ pub const WHOLE: &str = r#"fit 0 3
     text "FLT?\rOUT 0\r"
     key 0 OUTPUT
     line PV?"#;
-/// Bytes behind it that are no field, with where the input then ends.
+/// Bytes after it that are not a field, and where the input then ends.
 const ENDINGS: [(&str, &[u8]); 4] = [
     ("behind a field", b""),
     ("amid a header", b"\x01"),
@@ -45,7 +45,7 @@ const ENDINGS: [(&str, &[u8]); 4] = [
     ("amid a payload", b"\x01\x00\x04PV?"),
 ];
 
-/// Inputs that end in each way, with names; the last ends amid the list.
+/// Inputs that end in each way, with names; the last ends within the list.
 pub fn inputs() -> Vec<(&'static str, Vec<u8>)> {
     let whole = list(WHOLE);
     let mut inputs = ENDINGS.map(|(name, end)| (name, [&whole, end].concat())).to_vec();
@@ -81,12 +81,12 @@ pub fn pieces(mut input: &[u8]) -> impl Iterator<Item = &[u8]> {
     })
 }
 
-/// The command takes the descriptors with it when it goes, so that only the program has them then.
+/// Dropping the command closes its descriptors, so that only the program still has them.
 pub fn start(mut command: Command) -> Result<Child, String> {
     command.spawn().map_err(|error| error.to_string())
 }
 
-/// The program behind an empty pipe from which reads do not wait.
+/// The program reading an empty pipe whose reads do not wait.
 fn dry(bench: &Bench) -> Result<(Live, Said), String> {
     let wrong = |error: io::Error| error.to_string();
     let (reader, writer) = io::pipe().map_err(wrong)?;
@@ -106,7 +106,7 @@ fn slow_writer(bench: &Bench, input: &[u8]) -> Result<(), String> {
     said.expect("")
 }
 
-/// Both streams are one socket, as a server hands it on; a refusal ends the program.
+/// Both streams are one socket, as a server passes it on; a refusal ends the program.
 fn socket(bench: &Bench) -> Result<(), String> {
     let wrong = |error: io::Error| error.to_string();
     let (near, far) = UnixStream::pair().map_err(wrong)?;
@@ -117,7 +117,7 @@ fn socket(bench: &Bench) -> Result<(), String> {
     ends_by_a_refusal(Live::between(start(command)?, near, reader), &said)
 }
 
-/// A list with a field at its end that is refused, so that the program ends though nobody closes its
+/// A list that ends with a refused field, so that the program ends although nobody closes its
 /// input.
 pub fn ends_by_a_refusal(mut live: Live, said: &Said) -> Result<(), String> {
     let input = [&list(WHOLE), &b"\x09\x00\x00"[..]].concat();
@@ -140,7 +140,7 @@ fn stopped(bench: &Bench) -> Result<(), String> {
     said.expect("")
 }
 
-/// How long replies take when the program has found its input empty before.
+/// How long replies take if the program found its input empty before.
 pub fn reply_soon(live: &mut Live, model: &mut Running) -> Result<(), String> {
     let query = &list("fit 6 0\nline PV?")[SLOTS..];
     let mut spent = Duration::ZERO;
@@ -177,7 +177,7 @@ pub fn computes_nothing(process: u32) -> Result<(), String> {
     }
 }
 
-/// Waits behind so many bytes of the input.
+/// Waits after this many bytes of the input.
 fn idle(bench: &Bench, bytes: usize) -> Result<(), String> {
     let (mut live, said) = dry(bench)?;
     let mut model = Running::default();
