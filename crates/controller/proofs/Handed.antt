@@ -1,4 +1,4 @@
--- What stands at the start of the buffer behind a cycle, and what behind it.
+-- What stands at the start of the buffer after a cycle, and what follows it.
 use Prim.Native.Nat.{ℕ}
 use mathlib.Core.Path.{_≡_}
 use mathlib.Core.List.{List, _++_, map}

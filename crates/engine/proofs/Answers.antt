@@ -1,5 +1,5 @@
--- A field worked piece by piece: what a piece leaves, and then what is left of the field, is the field; and fields in turn from
--- the middle of one.
+-- A field worked piece by piece: what a piece leaves, and then the rest of the field, is the field; and fields in turn
+-- from the middle of one.
 use Prim.Native.Nat.{ℕ, suc, _+_}
 use mathlib.Core.Path.{_≡_, refl, ap, _∙_}
 use mathlib.Core.Bool.{Bool}
@@ -26,16 +26,16 @@ sentBy v is = scan grammar (v .setup) (v .wire) is
 abbrev pub drawn : wire.Rack Supply → List Item → List ℕ
 drawn v is = replies plainSupply (v .setup) (v .slots) (sentBy v is .sent)
 
--- the answer to what is left of a field that found the slots ss
+-- the result of the rest of a field, where ss are the slots that it found
 abbrev pub answerSince : List Supply → wire.Rack Supply → Parsed → wire.CallResult Supply
 answerSince ss v (refuse n) = refused n
 answerSince ss v (accept n is) = done (moved plainSupply v (sentBy v is)) n (drawnSince plainSupply ss v (sentBy v is))
 
--- fields in turn, from one of which `left` serial bytes are left, which found the slots ss; or none was begun
+-- fields in turn, beginning with the last `left` serial bytes of a field that found the slots ss; or no field was begun
 abbrev pub onward : ℕ → (ℕ → Bool) → List ℕ → List Supply → wire.Rack Supply → ℕ → ℕ → List ℕ → Ran
 onward n stop s ss v used left said = afterField (fieldsFrom n stop s) stop v used said (answerSince ss v (itemsAt (v .setup) (drop used s) left))
 
--- where none was begun
+-- if none was begun
 pub onward-new : (n : ℕ) (stop : ℕ → Bool) (s : List ℕ) (v : wire.Rack Supply) (used : ℕ) (said : List ℕ) → fieldsFrom (suc n) stop s v used said ≡ onward n stop s (v .slots) v used 0 said
 unfolding callOf parse
 onward-new n stop s v used said = ap (afterField (fieldsFrom n stop s) stop v used said) (byParsed (readField (fitted (v .setup)) (drop used s)))

@@ -1,4 +1,4 @@
--- Fields in turn, in parts: what stopped them does not count where they go on, nor do bytes that come later.
+-- Fields in turn, in parts: what stopped them makes no difference if they go on, and neither do bytes that come later.
 use Prim.Native.Nat.{ℕ, zero, suc, _+_, _≤_, _<_}
 use mathlib.Core.Path.{_≡_, refl, sym, ap, subst, _∙_}
 use mathlib.Core.Bool.{Bool, true, false}
@@ -17,7 +17,7 @@ use Rattle.plain.specs.Plain.{plainSupply}
 use Rattle.engine.specs.Engine.{fieldAt, Ran, ran, afterField, fieldsFrom, fieldsOn, never, allFields}
 use Rattle.engine.proofs.Fields.{accepted-uses, accepted-longer, refused-some, no-bytes, spends, fuel, ended, shifted, shift, behind}
 
--- fields that were stopped go on; those that a refusal ended are ended
+-- fields that were stopped go on; those that a refusal ended have ended
 abbrev pub resume : List ℕ → Ran → Ran
 resume s R = pick (eqb (R .code) 0) (fieldsFrom (suc (length s)) never s (R .rack) (R .used) (R .said)) R
 
@@ -42,7 +42,7 @@ module _ (stop : ℕ → Bool) (s : List ℕ) where
   through zero v used said h f = absurd (omega (arith, h, f))
   through (suc n) v used said h f = through-step n v used said h f (λ q k t. through n q k t) (callOf plainSupply v (fieldAt (drop used s))) refl
 
--- A CYCLE MORE, on the bytes that are left
+-- ONE MORE CYCLE, on the bytes that are left
 module _ (s : List ℕ) (v q : wire.Rack Supply) (used k : ℕ) (said t : List ℕ) (c : ℕ) (stop : ℕ → Bool) (h : used ≤ length s) (e : ran q k t c ≡ fieldsOn stop v (drop used s)) where
   abbrev rest : List ℕ
   rest = drop used s
@@ -90,7 +90,7 @@ module _ (s x : List ℕ) where
   longer (suc n) zero v used said h f g = absurd (omega (arith, h, g, length-append s x))
   longer (suc n) (suc m) v used said h f g = longer-step n m v used said h f g (λ q k t. longer n m q k t) (callOf plainSupply v (fieldAt (drop used s))) refl
 
-  -- a cycle that a refusal or a full buffer ended: the fields that follow it are those of the rest and of what comes
+  -- a cycle that a refusal or a full buffer ended: the fields that follow are those of the rest and of what comes
   module _ (v q : wire.Rack Supply) (used : ℕ) (said : List ℕ) (n : ℕ) (stop : ℕ → Bool) (e : ran q used said n ≡ fieldsOn stop v s) where
     within : used ≤ length s
     within = omega (arith, cycle-within s v q 0 used [] said n stop (omega arith) e)
@@ -98,7 +98,7 @@ module _ (s x : List ℕ) where
     whole : resume s (ran q used said n) ≡ allFields v s
     whole = rw zero-add at (cycle-more s v q 0 used [] said n stop (omega arith) e (allFields v s) refl)
 
-    -- one that a refusal ended is all fields
+    -- a cycle that a refusal ended is all fields
     pub cycle-all : (n ≡ 0 → ⊥) → ran q used said n ≡ allFields v s
     cycle-all z = rw (ne-eqb n 0 z) at whole
 
@@ -128,7 +128,7 @@ module _ (s x : List ℕ) where
     pub all-longer : allFields v (s ++ x) ≡ shifted s used said (allFields q (drop used s ++ x))
     all-longer = cycle-longer v q used said n never e
 
-    -- where the refusal stands though they come
+    -- if the refusal stays although they come
     pub all-still : callOf plainSupply q (fieldAt (drop used s ++ x)) ≡ refused n → ran q used said n ≡ allFields v (s ++ x)
     all-still d =
         let last : allFields q (drop used s ++ x) ≡ ran q 0 [] n = ap (afterField (fieldsFrom (length (drop used s ++ x)) never (drop used s ++ x)) never q 0 []) d in

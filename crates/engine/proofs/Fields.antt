@@ -1,4 +1,5 @@
--- Fields in turn: one alone; that they end; one part of them after another; and that they do not depend on how many there may be.
+-- Fields in turn: one alone; that they end; one part of them after another; and that the bound on their number makes no
+-- difference.
 use Prim.Native.Nat.{ℕ, zero, suc, _+_, _-_, _≤_, _<_}
 use mathlib.Core.Path.{_≡_, refl, sym, ap, subst, _∙_}
 use mathlib.Core.Bool.{Bool, true, false, true≢false, false≢true}
@@ -19,12 +20,12 @@ use Rattle.field.proofs.Laws.{read-refused, read-serial, read-empty, read-value
 use Rattle.plain.specs.Plain.{plainSupply}
 use Rattle.engine.specs.Engine.{fieldAt, Ran, ran, afterField, fieldsFrom, fieldsOn, never, fullAt}
 
--- a buffer that is full from the start stops behind the first field
+-- a buffer that is full from the start stops them after the first field
 pub one-field : (v q : wire.Rack Supply) (s : List ℕ) (n : ℕ) (t : List ℕ) → callOf plainSupply v (fieldAt s) ≡ done q n t → fieldsOn (fullAt 0) v s ≡ ran q n t 0
 one-field v q s n t e =
     ap (afterField (fieldsFrom (length s) (fullAt 0) s) (fullAt 0) v 0 []) e ∙ rw (le-ltb (length t) 0 (omega arith), zero-add n) refl
 
--- what an answer holds
+-- what a result contains
 abbrev pub usedBy : wire.CallResult Supply → ℕ
 usedBy (refused n) = 0
 usedBy (done q n t) = n
@@ -37,7 +38,7 @@ abbrev pub isDone : wire.CallResult Supply → Bool
 isDone (refused n) = false
 isDone (done q n t) = true
 
--- a call that is accepted uses bytes, and no more than there are
+-- an accepted call uses bytes, and no more than there are
 by-parsed : (v : wire.Rack Supply) (s : List ℕ) (p : Parsed) → p ≡ readField (fitted (v .setup)) s → isDone (wire.answerOf plainSupply v p) ≡ true
     → (0 < usedBy (wire.answerOf plainSupply v p)) × (usedBy (wire.answerOf plainSupply v p) ≤ length s)
 by-parsed v s (refuse n) e d = absurd (false≢true d)
@@ -50,7 +51,7 @@ accepted-uses v q s n t e =
     let u = ap usedBy e in
     (subst (λ (x : ℕ). 0 < x) u (k .0), subst (λ (x : ℕ). x ≤ length s) u (k .1))
 
--- more bytes behind a field do not count, unless it was refused as too short or cut short
+-- more bytes after a field make no difference, unless it was refused as too short or incomplete
 module _ (v : wire.Rack Supply) (s x : List ℕ) where
   abbrev fits : ℕ → Bool
   fits = fitted (v .setup)
@@ -108,7 +109,8 @@ module _ (v : wire.Rack Supply) (s : List ℕ) (n : ℕ) (e : callOf plainSupply
       byHeader true t = by-tag (eqb-true (headerCode s) 0 t) (eqb (tagOf s) 1) refl
       byHeader false t = eqb-false (headerCode s) 0 t (ap codeBy (answer (refuse (headerCode s)) (read-refused fit s (eqb-false (headerCode s) 0 t))) ∙ z)
 
--- FIELDS IN TURN END: they use no more bytes than there are, and some where they are stopped; with nothing to stop them, a refusal ends them
+-- FIELDS IN TURN END: they use no more bytes than there are, and at least one if they are stopped; with nothing to stop
+-- them, a refusal ends them
 pub record Spends (s : List ℕ) (used : ℕ) (R : Ran) : Type 0 where
   pub grows : used ≤ R .used
   pub within : R .used ≤ length s
@@ -138,7 +140,7 @@ module _ (stop : ℕ → Bool) (s : List ℕ) where
   spends (suc n) v used said h f = spends-step n v used said h f (λ q k t. spends n q k t) (callOf plainSupply v (fieldAt (drop used s))) refl
 
 module _ (s : List ℕ) where
-  -- it does not count how many they may be, if they may be enough
+  -- the bound on their number makes no difference, if it is large enough
   fuel-step : (n m : ℕ) (v : wire.Rack Supply) (used : ℕ) (said : List ℕ) → used ≤ length s → length s < used + suc n → length s < used + suc m
       → ((q : wire.Rack Supply) (k : ℕ) (t : List ℕ) → k ≤ length s → length s < k + n → length s < k + m → fieldsFrom n never s q k t ≡ fieldsFrom m never s q k t)
       → (a : wire.CallResult Supply) → callOf plainSupply v (fieldAt (drop used s)) ≡ a → afterField (fieldsFrom n never s) never v used said a ≡ afterField (fieldsFrom m never s) never v used said a
@@ -168,7 +170,7 @@ module _ (s : List ℕ) where
   ended zero v used said h f = absurd (omega (arith, h, f))
   ended (suc n) v used said h f = ended-step n v used said h f (λ q k t. ended n q k t) (callOf plainSupply v (fieldAt (drop used s))) refl
 
-  -- fields behind those that used some of the bytes are fields of the other bytes
+  -- fields after those that used some of the bytes are fields of the other bytes
   abbrev pub shifted : ℕ → List ℕ → Ran → Ran
   shifted a x R = ran (R .rack) (a + R .used) (x ++ R .said) (R .code)
 

@@ -1,4 +1,4 @@
--- A loop over bytes ends: a cycle that goes on has used bytes up, and one that has used none is the last.
+-- A loop over bytes ends: a cycle that goes on has used bytes, and one that has used none is the last.
 use Prim.Native.Nat.{ℕ, _+_, _-_, _≤_, _<_}
 use mathlib.Core.Path.{_≡_, refl}
 use mathlib.Core.Bool.{Bool, true, false}

@@ -1,4 +1,4 @@
--- Where the loop over pieces stands, and that a piece more keeps it there.
+-- Where the loop over pieces stands, and that one more piece keeps it there.
 use Prim.Native.Nat.{ℕ, zero, suc, _+_, _-_, _*_, _≤_, _<_}
 use mathlib.Core.Path.{_≡_, refl, sym, ap, subst, _∙_}
 use mathlib.Core.Logic.{inl, inr}
@@ -39,11 +39,11 @@ use Rattle.engine.proofs.Answers.{answerSince, onward, sentBy, onward-n
 abbrev ahead : ℕ
 ahead = longest + rate * 16
 
--- the loop goes on: nothing refused, and some of the field left or the buffer not full
+-- the loop goes on: nothing is refused, and either some of the field is left or the buffer is not full
 abbrev pub goesOn : ℕ → ℕ → ℕ → ℕ → Bool
 goesOn full code left next = eqb code 0 && (ltb 0 left || ltb next full)
 
--- a piece has no more bytes than there are, and some where the loop goes on
+-- a piece has no more bytes than there are, and at least one if the loop goes on
 module _ (u : Setup) (l : Line) (x : Supply) (a : ℕ) (s : List ℕ) (left : ℕ) (p : After) (b : List ℕ) (at : ℕ) (b′ : List ℕ) where
   pub piece-within : PieceDoes u l x a s left p b at b′ → p .used + p .left ≤ length s
   piece-within (inl d) = rw (d .is) (omega arith)
@@ -53,7 +53,8 @@ module _ (u : Setup) (l : Line) (x : Supply) (a : ℕ) (s : List ℕ) (left : �
   piece-spends t (inl d) e = absurd (d .some (eqb-true (p .code) 0 (and-eq-true-iff (eqb (p .code) 0) t .0 e .0)))
   piece-spends t (inr d) e = d .some
 
--- the replies so far are those of fields in turn, whose end is R; `since` are the slots that the field found which was begun; and there is room for those of the field that was begun
+-- the replies so far are those of fields in turn, whose end is R; `since` are the slots that the field under way found;
+-- and there is room for the replies of that field
 pub record Stands (R : Ran) (s b : List ℕ) (full : ℕ) (u : Setup) (ss : List Supply) (l : Line) (used next left code : ℕ) (going : Bool) (b′ : List ℕ) : Type 0 where
   pub said : List ℕ
   pub fuel : ℕ
@@ -118,7 +119,7 @@ module _ (R : Ran) (s b : List ℕ) (full : ℕ) (u : Setup) (ss : List Supply) 
     abbrev t : List ℕ
     t = drawn v (d .items)
 
-    -- the line of the rack that is left is the one that the items leave
+    -- the line of the resulting rack is the one that the items leave
     same-due : due (wireOf (p .line)) ≡ due (sentBy v (d .items) .wire)
     same-due = ap (λ (r : wire.Rack Supply). due (r .wire)) (leaves .moves .view)
 
@@ -229,13 +230,13 @@ module _ (R : Ran) (s b : List ℕ) (full : ℕ) (u : Setup) (ss : List Supply) 
         byTests false e true i = all-done (omega (arith, ltb-false 0 (p .left) e)) (f .fuel) refl i
         byTests false e false i = filled (omega (arith, ltb-false 0 (p .left) e)) i
 
-  -- a piece more
+  -- one more piece
   pub stands-next : (a : ℕ) → (fitted u a ≡ true → k ≡ a) → length ss ≤ 31 → length (l .kept) ≡ 64 → PieceDoes u l x a (drop used s) left p b₁ next b₂
       → Stands R s b full u (slotsAfter u p ss k) (p .line) (used + p .used) (p .next) (p .left) (p .code) (goesOn full (p .code) (p .left) (p .next)) b₂
   stands-next a fits short wide (inl d) = after-refusal d
   stands-next a fits short wide (inr d) = after-taken a fits short wide d
 
--- of any rack: where the first field is refused with n, the loop has changed nothing
+-- for any rack: if the first field is refused with n, the loop has changed nothing
 pub record Unmoved (ss₀ : List Supply) (l₀ : Line) (b : List ℕ) (n : ℕ) (ss : List Supply) (l : Line) (used next left code : ℕ) (going : Bool) (b′ : List ℕ) : Type 0 where
   pub slots-are : ss ≡ ss₀
   pub line-is : l ≡ l₀
@@ -248,7 +249,7 @@ pub record Unmoved (ss₀ : List Supply) (l₀ : Line) (b : List ℕ) (n : ℕ) 
 pub unmoved-start : (ss : List Supply) (l : Line) (b : List ℕ) (n : ℕ) → Unmoved ss l b n ss l 0 0 0 0 true b
 unmoved-start ss l b n = record { slots-are = refl; line-is = refl; used-is = refl; next-is = refl; left-is = refl; buffer-is = refl; code-is = λ g. absurd (true≢false g) }
 
--- the answer where the first field is refused, from what each part of it is
+-- the result if the first field is refused, from what each part of it is
 pub refused-answer : (ss ss₀ : List Supply) (l l₀ : Line) (u u₀ : Setup) (used next code n : ℕ) → ss ≡ ss₀ → l ≡ l₀ → u ≡ u₀ → used ≡ 0 → next ≡ 0 → code ≡ n
     → _≡_ {A = Worked} (record { rack = rackIs ss l u; used = used; next = next; code = code }) (record { rack = rackIs ss₀ l₀ u₀; used = 0; next = 0; code = n })
 refused-answer ss ss₀ l l₀ u u₀ used next code n slots line setup none unsaid refused = rw (slots, line, setup, none, unsaid, refused) refl
@@ -259,7 +260,7 @@ printed-said f b said b₁ next put e =
     let all : b₁ ≡ said ++ drop (length said) b = rw zero-add at (put-whole put (omega (arith, e, put .next-is, length-take (length b - 0) said)) .1) in
     rw (e, all) (each-first f said (drop (length said) b))
 
--- nothing was said, and the buffer stands as it was
+-- nothing was said, and the buffer is as it was
 pub printed-none : (f : ℕ → ℕ) (b b₁ : List ℕ) (next : ℕ) → next ≡ 0 → b₁ ≡ b → eachTo (λ i x. f x) next b₁ ≡ b
 printed-none f b b₁ next e same = rw e same
 
@@ -285,7 +286,7 @@ module _ (u : Setup) (s : List ℕ) (n : ℕ) (e : readField (fitted u) s ≡ re
   pub unmoved-next : PieceDoes u l x a (drop used s) left p b₁ next b₂ → Unmoved ss₀ l₀ b n (slotsAfter u p ss k) (p .line) (used + p .used) (p .next) (p .left) (p .code) (goesOn full (p .code) (p .left) (p .next)) b₂
   unmoved-next d = first-piece (rw (f .used-is, f .left-is) at d)
 
--- WHAT HOLDS AT EACH TURN of the loop
+-- WHAT HOLDS AT EACH CYCLE of the loop
 pub record Inv (u : Setup) (s b : List ℕ) (full : ℕ) (ss₀ : List Supply) (l₀ : Line) (ss : List Supply) (l : Line) (used next left code : ℕ) (going : Bool) (b′ : List ℕ) : Type 0 where
   pub inside : used + left ≤ length s
   pub same : length b′ ≡ length b
@@ -332,7 +333,7 @@ module _ {u : Setup} {s b : List ℕ} {full : ℕ} {ss₀ : List Supply} {l₀ :
         }
 
   module _ (on : going ≡ true) (new : left ≡ 0) where
-    -- a sample stands there, for a supply that is there
+    -- a sample comes next, for a supply that exists
     module _ (z : Supply) (is : isSample rest ≡ true) (there : fitted u (getD rest 3 0) ≡ true) (low : getD rest 3 0 < 31) where
       abbrev a : ℕ
       a = getD rest 3 0

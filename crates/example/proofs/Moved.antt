@@ -1,4 +1,4 @@
--- The list of specs/Moved.antt at its two addresses, by computing.
+-- The list of specs/Moved.antt at its two addresses, by computation.
 use Prim.Native.Nat.{ℕ}
 use mathlib.Core.Path.{_≡_, refl, sym, ap, _∙_}
 use mathlib.Core.List.{List, [], _∷_, map}

@@ -1,4 +1,4 @@
--- A run repeats: equal shares leave equal supplies, and calls that are no concern of a slot are not in its share.
+-- A run repeats: equal shares leave equal supplies, and calls that do not concern a slot are not in its share.
 use Prim.Native.Nat.{ℕ}
 use mathlib.Core.Path.{_≡_, refl, sym, ap, _∙_}
 use mathlib.Core.Bool.{Bool, true, false, true≢false, not, and-eq-true-iff}
@@ -83,7 +83,7 @@ module _ (u : Setup) (a : ℕ) where
       let both = and-eq-true-iff (not (eqb a b)) (elsewhere a is) .0 h in
       rw (not-true (eqb a b) (both .0)) (past is js (both .1) bytes sel)
 
-  -- a call more, with or without its being dropped
+  -- one more call, dropped or not
   own-step : (c : Call) (cs ds : List Call) → Alike (stream grammar u cs) (stream grammar u ds) → (t : Bool) → elsewhere a (items (parse grammar u c)) ≡ t
       → Alike (stream grammar u (c ∷ cs)) (stream grammar u (pick (not t) (c ∷ ds) ds))
   own-step c cs ds h true e bytes sel = past (items (parse grammar u c)) (stream grammar u cs) e bytes sel ∙ h bytes sel

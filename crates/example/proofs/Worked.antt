@@ -1,4 +1,4 @@
--- The worked list of calls, by computation; and what demand 3 says of it.
+-- The worked list of calls, by computation; and what demand 3 says about it.
 use mathlib.Core.Path.{_≡_, refl, sym, ap, _∙_}
 use mathlib.Core.List.{[], _∷_, _++_}
 use mathlib.Core.Bool.{true}

@@ -1,4 +1,4 @@
--- What a field's bytes come to: a law for each outcome, what a good head says of the payload.
+-- The outcome of a field's bytes: a law for each outcome, and what a good header says about the payload.
 use Prim.Native.Nat.{ℕ, _+_, _≤_, _<_}
 use mathlib.Core.Path.{_≡_, refl, sym, ap, _∙_}
 use mathlib.Core.Logic.{_⊎_, inl, inr}
@@ -15,7 +15,8 @@ use Rattle.wire.specs.Wire.{field, Item, byte, event, Parsed, refuse, accept}
 use Rattle.supply.specs.declared.Act.the-variants.{Sample}
 use Rattle.field.specs.Fields.{pairAt, tagOf, lengthOf, payloadOf, lengthFits, headerCode, isSample, valuesFit, actOf, readField}
 
--- THE HEAD, a law for each outcome in the order of the tests; tag, n and r are what the code has for the tag, the length and its test
+-- THE HEADER, a law for each outcome in the order of the tests; tag, n and r are the code's values for the tag, the
+-- length and its test
 pub too-short : (b : List ℕ) → length b < 3 → 2 ≡ headerCode b
 unfolding headerCode
 too-short b h = rw (lt-ltb (length b) 3 h)
@@ -44,7 +45,7 @@ pub serial-length : (n : ℕ) → lengthFits 1 n ≡ true → (1 ≤ n) × (n �
 unfolding lengthFits
 serial-length n e = let t = and-eq-true-iff (leb 1 n) (leb n 16) .0 e in (leb-true 1 n (t .0), leb-true n 16 (t .1))
 
--- every other tag has two bytes at least
+-- every other tag has at least two bytes
 other-length : (t n : ℕ) → (t ≡ 1 → ⊥) → lengthFits t n ≡ true → 2 ≤ n
 unfolding lengthFits
 other-length t n h =
@@ -60,7 +61,7 @@ length-most t n =
     (pick-keeps (λ (x : Bool). x ≡ true → n ≤ 16) (eqb t 3) (eqb n 6) (pick (eqb t 5) (eqb n 5) (eqb n 2)) (λ e. omega (arith, eqb-true n 6 e))
     (pick-keeps (λ (x : Bool). x ≡ true → n ≤ 16) (eqb t 5) (eqb n 5) (eqb n 2) (λ e. omega (arith, eqb-true n 5 e)) (λ e. omega (arith, eqb-true n 2 e))))
 
--- A GOOD HEAD
+-- A GOOD HEADER
 pub header-good : (b : List ℕ) → headerCode b ≡ 0 → (3 + lengthOf b ≤ length b) × (1 ≤ tagOf b) × (tagOf b ≤ 5) × (lengthFits (tagOf b) (lengthOf b) ≡ true)
 unfolding headerCode
 header-good b e =
@@ -78,7 +79,7 @@ pub address-byte : (b : List ℕ) → headerCode b ≡ 0 → (tagOf b ≡ 1 → 
 address-byte b e h =
     getD-take (lengthOf b) (drop 3 b) 0 0 (omega (arith, other-length (tagOf b) (lengthOf b) h (header-good b e .3))) ∙ getD-drop 3 b 0 0
 
--- A SAMPLE: its head is good, its values are free, and what it asks is in its bytes
+-- A SAMPLE: its header is good, its values may be anything, and what it asks is in its bytes
 module _ (b : List ℕ) (e : isSample b ≡ true) where
   sample-parts : (8 ≤ length b) × (tagOf b ≡ 5) × (lengthOf b ≡ 5)
   unfolding isSample
@@ -131,7 +132,7 @@ module _ (fits : ℕ → Bool) (b : List ℕ) where
   unfolding readField
   read-event e t f v = rw (eq-eqb (headerCode b) 0 e, ne-eqb (tagOf b) 1 t, f, v)
 
-  -- what holds of each outcome holds of the field
+  -- what holds for each outcome holds for the field
   pub outcomes : (P : Parsed → Type 0) → P (refuse (headerCode b)) → P (refuse 6) → P (refuse 7) → ((is : List Item) → P (accept (3 + lengthOf b) is)) → P (readField fits b)
   unfolding readField
   outcomes P head six seven good =
@@ -140,7 +141,7 @@ module _ (fits : ℕ → Bool) (b : List ℕ) where
       (pick-keeps P (not (fits (getD (payloadOf b) 0 0))) (refuse 6) _ six
       (pick-keeps P (not (valuesFit (tagOf b) (payloadOf b))) (refuse 7) _ seven (good (event (getD (payloadOf b) 0 0) (field (tagOf b) (payloadOf b)) ∷ [])))))
 
-  -- a head that is refused, by its number
+  -- a refused header, by its number
   pub read-code : (n : ℕ) → headerCode b ≡ n → 0 < n → readField fits b ≡ refuse n
   read-code n e h = read-refused (λ z. omega (arith, e, z, h)) ∙ ap refuse e
 
@@ -172,7 +173,7 @@ module _ (fits : ℕ → Bool) (b : List ℕ) where
           (omega (arith, u), omega (arith, u, header-good b good .0))
       byHeader false h = absurd (false≢true (ap accepts (sym (read-refused (eqb-false (headerCode b) 0 h)) ∙ e)))
 
--- A FIELD THAT LACKS BYTES has 18 at most
+-- AN INCOMPLETE FIELD has at most 18 bytes
 abbrev pub codeIn : Parsed → ℕ
 codeIn (refuse n) = n
 codeIn (accept n is) = 0
@@ -207,7 +208,7 @@ lacking-short fits b lacks = byLength (ltb 18 (length b)) refl lacks
     byLength true e (inr h) = absurd (complete b (ltb-true 18 (length b) e) fits .1 h)
     byLength false e l = ltb-false 18 (length b) e
 
--- MORE BYTES behind a field change nothing of what is said of it, unless it is cut short
+-- MORE BYTES after a field change nothing in its outcome, unless it is incomplete
 module _ (b x : List ℕ) (long : 3 ≤ length b) where
   abbrev more : List ℕ
   more = b ++ x

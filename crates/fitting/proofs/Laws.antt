@@ -24,7 +24,7 @@ last : (t : Bool) (l : List ℕ) (x : ℕ) → foldl also t (l ++ x ∷ []) ≡ 
 last t [] x = refl
 last t (y ∷ l) x = last (also t y) l x
 
--- the bytes of the list, one after the other
+-- the bytes of the list, one after another
 pub allowed-none : true ≡ allAllowed []
 unfolding allAllowed
 allowed-none = refl
@@ -41,7 +41,7 @@ pub models-are : (l xs start : List ℕ) (k : ℕ) → k ≤ 31 → 31 ≤ k →
 models-are l xs start k h g n e m =
     e ∙ eachTo-all (λ a x. getD l a 0) k start 0 (omega arith) ∙ ap (λ (j : ℕ). tabulate j (λ i. getD l i 0)) (n ∙ sym m) ∙ tabulate-same 0 l
 
--- the slots, one fresh supply after the other
+-- the slots, one fresh supply after another
 abbrev freshAt : List ℕ → ℕ → Supply → Supply
 freshAt models a s = fresh (getD models a 255)
 

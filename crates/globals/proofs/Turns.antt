@@ -1,4 +1,4 @@
--- A turn of the loop over the slots, the turns before it having left what they should.
+-- One cycle of the loop over the slots, after correct earlier cycles.
 use mathlib.Core.Path.{_≡_, sym, ap, _∙_}
 use mathlib.Core.Bool.{not}
 use mathlib.Core.List.{List}
@@ -19,11 +19,11 @@ use Rattle.acts.specs.Acts.{performed}
 use Rattle.globals.specs.Globals.{orderedAt}
 
 module _ (u : Setup) (o : Order) (i : ℕ) (l xs : List Supply) (inside : i < length (u .models)) (so-far : xs ≡ eachTo (orderedAt u o) i l) where
-  -- an empty slot is passed over
+  -- an empty slot is skipped
   pub passed-over : getD (u .models) i 0 ≡ 255 → xs ≡ eachTo (orderedAt u o) (i + 1) l
   passed-over e = eachTo-skip (orderedAt u o) i l xs (fresh 255) so-far (pick-false _ _ _ (ap not (eq-eqb (modelAt u i) 255 (sym (model-inside u i 0 inside) ∙ e))))
 
-  -- in a fitted one stands what its supply makes of the order, however the order is written
+  -- a fitted slot gets the supply after the order, however the order is written
   pub obeyed : (p : Order) (d y : Supply) → p ≡ o → (getD (u .models) i 0 ≡ 255 → ⊥) → y ≡ performed (getD (u .models) i 0) (getD xs i d) (Obey p) → set xs i y ≡ eachTo (orderedAt u o) (i + 1) l
   obeyed p d y same ne e =
       eachTo-again (orderedAt u o) i l xs d y so-far

@@ -1,4 +1,5 @@
--- One call as a cycle of fields: what it leaves of a buffer, that a short one is refused, and that it is one field in turn.
+-- One call as a cycle of fields: what it leaves of a buffer, that a short one is refused, and that it is one field in
+-- turn.
 use Prim.Native.Nat.{ℕ, _+_, _-_, _<_}
 use mathlib.Core.Path.{_≡_, refl, sym, ap, _∙_}
 use mathlib.Core.Bool.{Bool, true, false≢true, not, _&&_}
@@ -31,7 +32,7 @@ fresh-buffer n i h g = getD-replicate n i 165 0 (omega (arith, h, length-replica
 later : (b : List ℕ) (n : ℕ) → Unwritten b 0 → Unwritten b n
 later b n u i h g = u i h (omega arith)
 
--- behind what was put at its start, a buffer is as it was
+-- after what was written at its start, a buffer is as it was
 behind-reply : (t b : List ℕ) → Unwritten b 0 → Unwritten (t ++ drop (length t) b) (length t)
 behind-reply t b u i h g =
     let n : length (t ++ drop (length t) b) ≡ length t + (length b - length t) = length-append t (drop (length t) b) ∙ ap (λ (k : ℕ). length t + k) (length-drop (length t) b) in

@@ -1,4 +1,4 @@
--- Characters of a line, one after the other: nothing is handed out, and the slot selected stays.
+-- Characters of a line, one after another: nothing is handed out, and the same slot stays selected.
 use Prim.Native.Nat.{ℕ, _+_, _-_, _≤_, _<_}
 use mathlib.Core.Path.{_≡_, refl, ap, _∙_}
 use mathlib.Core.Bool.{false}

@@ -1,4 +1,4 @@
--- What the parts of the code give is what a piece is: serial bytes up to a line's end, an event, a refusal.
+-- What the parts of the code give makes a piece: serial bytes up to the end of a line, an event, a refusal.
 use Prim.Native.Nat.{ℕ, _+_, _-_, _≤_, _<_}
 use mathlib.Core.Path.{_≡_, refl, sym, ap, _∙_}
 use mathlib.Core.Logic.{inl, inr}
@@ -40,7 +40,7 @@ pub feed-within : (p : List ℕ) (i r : ℕ) → FeedDoes p i r → i ≤ length
 feed-within p i r (inl e) h = (omega (arith, e .0), omega (arith, e .0, h))
 feed-within p i r (inr e) h = (omega (arith, e .0), omega (arith, e .0, e .1))
 
--- an LF behind serial bytes changes nothing
+-- an LF after serial bytes changes nothing
 module _ (u : Setup) (l : Line) (p : List ℕ) (i : ℕ) (h : i < length p) (lf : getD p i 0 ≡ 10) where
   feed-quiet : (s : Sent) → followed s (byteOn grammar u (s .wire) 10) ≡ s
   unfolding byteOn charOn
@@ -57,7 +57,7 @@ module _ (u : Setup) (l : Line) (p : List ℕ) (i : ℕ) (h : i < length p) (lf 
       record { moves = rw feed-sent (g .moves); fair = record { fair = rw feed-sent (omega (arith, g .fair .fair)) } }
 
 module _ (u : Setup) (l : Line) (s : Supply) (p : List ℕ) (head : ℕ) (b : List ℕ) (at : ℕ) (j : ℕ) (m : Line) (d : CharsTaken l p j m) where
-  -- characters move nothing but the line
+  -- characters change only the line
   typed-moves : (ss : List Supply) → Typing l p j m → Moves (rackIs ss l u) (quiet (wireOf m)) (rackIs ss m u) b at at b
   typed-moves ss t = record { small = t .small; view = refl; said = put-none b at }
 
@@ -120,7 +120,7 @@ module _ (u : Setup) (l : Line) (s : Supply) (p : List ℕ) (head : ℕ) (b : Li
           rw (q .0)
           (line-does (j + 1 + 1) (omega arith) (omega (arith, q .1)) (feed-does u l p (j + 1) (q .1) (q .2) s (l .selected) (ended (head + (j + 1 + 1)) (length p - (j + 1 + 1))) b at b′ (end-does (head + (j + 1 + 1)) (length p - (j + 1 + 1)))))
 
--- a piece of no serial bytes is a field that names its address
+-- a piece without serial bytes is a field that names its address
 pub not-serial : (s : List ℕ) (left : ℕ) → isSerial s left ≡ false → (left ≡ 0) × (tagOf s ≡ 1 → ⊥)
 not-serial s left e = let k = neither (ltb 0 left) (eqb (tagOf s) 1) e in (omega (arith, ltb-false 0 left (k .0)), eqb-false (tagOf s) 1 (k .1))
 
@@ -131,7 +131,7 @@ left-over s head taken left n e =
     rw (← e, take-take taken (taken + left) (drop head s) (omega arith), take-add taken left (drop head s), map-append byte (take taken (drop head s)) (take left (drop taken (drop head s))), drop-drop taken head s) refl
 
 module _ (u : Setup) (l : Line) (x : Supply) (s b : List ℕ) (at : ℕ) where
-  -- a field that is refused by its header, whatever it would reach
+  -- a field refused for its header, whichever slot it would reach
   pub bad-header : (a n : ℕ) → n ≡ headerCode s → (n ≡ 0 → ⊥) → PieceDoes u l x a s 0 (refusedAs l x at n) b at b
   bad-header a n g h = inl (record { reads = read-refused (fitted u) s (λ z. h (g ∙ z)) ∙ ap refuse (sym g); some = h; is = refl; buffer-is = refl })
 
@@ -214,7 +214,7 @@ module _ (u : Setup) (l : Line) (x : Supply) (s b : List ℕ) (at : ℕ) where
             does = rw (← address-byte s good t) event-leaves;
           })
 
--- a sample, of which nothing but its address can be refused
+-- a sample; only its address can be refused
 pub sample-done : (u : Setup) (l : Line) (x : Supply) (s b : List ℕ) (at : ℕ) → isSample s ≡ true → fitted u (getD s 3 0) ≡ true → PieceDoes u l x (getD s 3 0) s 0 (sampleAs u l x at s) b at b
 sample-done u l x s b at is f =
     let good = sample-head s is in

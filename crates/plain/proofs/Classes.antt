@@ -34,7 +34,7 @@ use Rattle.plain.specs.Plain.{classBy, classOf}
 use Rattle.plain.specs.Classes.{adrWord, globalWords, classFor, Classes}
 use Rattle.plain.proofs.Heard.{heard-has}
 
--- the bytes of a class, and what tells the classes apart
+-- the bytes of a class, and what distinguishes the classes
 abbrev bytesOf : Class → List ℕ
 bytesOf (select n t) = t
 bytesOf (faulty t) = t
@@ -79,7 +79,7 @@ inside-30 p = byTest (ltb 30 (p .value)) refl
     byTest true e = omega arith
     byTest false e = omega (arith, ltb-false 30 (p .value) e)
 
--- ADR alone selects, and an address above 30 is none
+-- only ADR selects, and an address above 30 does not exist
 word-inside : (k : Command) (x : List ℕ) → selectsInside (askedBy k x)
 unfolding askedBy parameterOf
 word-inside (toOne o) x = pick-keeps selectsInside (eqb (parameterOf (kindOfOrder o) x .code) 0) _ _ tt tt
@@ -113,7 +113,7 @@ module _ (kept : List ℕ) where
   wrong-checksum-class true h r = refl
   wrong-checksum-class false h r = rw (h, r) refl
 
--- ADR is the one word that selects, and the four globals are those that go to all
+-- ADR is the one word that selects, and the four globals are the words that go to all
 abbrev selects : Command → Bool
 selects selecting = true
 selects (toOne o) = false
@@ -140,7 +140,7 @@ unfolding findWord
 empty-word [] e = rw take-nil refl
 empty-word (x ∷ u) e = let z : length (x ∷ u) ≡ 0 = eqb-true (length (x ∷ u)) 0 e in absurd (omega arith)
 
--- an order's word is known, and what it takes is no address
+-- an order's word is known, and its parameter is not an address
 order-known : (o : OrderWord) → isUnknown (kindOfOrder o) ≡ false
 order-known (set t) = refl
 order-known ovm = refl
@@ -163,7 +163,7 @@ order-within fena x = refl
 order-within cls x = refl
 order-within rst x = refl
 
--- what all stages have, and what is asked where none applies, the first that applies has
+-- what holds for all stages, and for what is asked if none applies, holds for the first that applies
 abbrev EachHas : (Asks → Type 0) → List Stage → Type 0
 EachHas P [] = Unit
 EachHas P (e ∷ es) = P (e .1) × EachHas P es
@@ -173,7 +173,7 @@ first-has P [] a h p = p
 first-has P (e ∷ es) a h p = pick-keeps P (e .0) (e .1) (firstOf es a) (h .0) (first-has P es a (h .1) p)
 
 module _ (x : List ℕ) (s : Bool) where
-  -- the stages of a command from the empty line on, and what is asked where none applies
+  -- the stages of a command from the empty line on, and what is asked if none applies
   abbrev laterStages : Bool → Command → List Stage
   laterStages e k =
       (e, One Nothing) ∷
@@ -186,7 +186,7 @@ module _ (x : List ℕ) (s : Bool) where
   abbrev asksThen : Command → Asks
   asksThen k = asksWith k (valueOf (kindOf k) x)
 
-  -- what an ADR and what a global is to be
+  -- what an ADR must be, and what a global must be
   abbrev adrWith : Command → Class
   adrWith k =
       pick (isAbsent (kindOf k) x) (faulty (replyOf s (codeText c02)))
@@ -238,7 +238,7 @@ module _ (x : List ℕ) (s : Bool) where
   classed selecting true h = absurd (true≢false (ap selects (h refl)))
   classed selecting false h = to-select (isAbsent address x) (isMalformed address x) (isBeyond address x)
 
-  -- a line that is spoiled or wrongly checksummed goes to the slot selected, whatever its word
+  -- a line that is spoiled or has a wrong checksum goes to the selected slot, whatever its word
   any-classed : (spoiled wrong e : Bool) (k : Command) → Classed k e
       → classBy (firstOf ((spoiled, Error c01) ∷ (wrong, Error c04) ∷ laterStages e k) (asksThen k)) s
       ≡ pick ((not spoiled && not wrong) && selects k) (adrWith k)

@@ -1,4 +1,5 @@
--- What holds of every command with its parameter, of the empty line and of each error holds of whatever a line asks.
+-- What holds for every command with its parameter, for the empty line and for each error holds for whatever a line
+-- asks.
 use Prim.Native.Nat.{ℕ}
 use mathlib.Core.List.{List}
 use mathlib.Core.Bool.{Bool, true, false}

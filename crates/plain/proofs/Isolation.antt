@@ -1,4 +1,5 @@
--- Demand 3 of the plain supply on real lines and fields: the laws that it owes, and the theorem for every setup and list of calls.
+-- Demand 3 for the plain supply on real lines and fields: the laws that it has to satisfy, and the theorem for every
+-- setup and list of calls.
 use Prim.Native.Nat.{ℕ}
 use mathlib.Core.Path.{_≡_}
 use mathlib.Core.List.{List}
@@ -64,7 +65,7 @@ module _ (m : ℕ) where
   step-frees k s (field t p) r = frees m k s (actOf t p) r
   step-frees k s (line kept spoiled) r = obeyed-frees k s (heardOf kept spoiled .asks) r
 
-  -- what the plain supply of any model owes
+  -- the laws that the plain supply of any model has to satisfy
   pub laws : Laws plainSupply trips Lawful m
   laws = record { starts = fresh-lawful m; keeps = step-keeps; shut = shut; held = step-held; frees = step-frees }
 

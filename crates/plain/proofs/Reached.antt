@@ -37,7 +37,7 @@ use Rattle.plain.specs.Plain.{stepOf, grammar, plainSupply}
 use Rattle.plain.specs.Reached.{CheckedAsks, Passed, SharesCoherent}
 use Rattle.plain.proofs.Heard.{heard-has}
 
--- RMT takes 0, 1 or 2; of the other orders nothing is asked
+-- RMT takes 0, 1 or 2; the other orders need no check
 order-checked : (o : OrderWord) (x : List ℕ) → CheckedOrder (orderWith o (parameterOf (kindOfOrder o) x .value))
 order-checked rmt x = switch-most 2 x
 order-checked (set t) x = tt
@@ -89,7 +89,7 @@ lines-value : (t : ℕ) (p : List ℕ) → eqb t 4 ≡ true → valuesFit t p �
 unfolding valuesFit
 lines-value t p f e = bits-listed (getD p 1 0) (eqb-true (bitAnd (getD p 1 0) 0x59) 0 (rw (eqb-true t 4 f) at e))
 
--- keys and knob steps are asked nothing
+-- keys and knob steps need no check
 press-checked : (n : ℕ) → Checked (pressOf n)
 unfolding pressOf
 press-checked n = pick-keeps Checked (eqb n 0) _ _ tt (pick-keeps Checked (eqb n 1) _ _ tt (pick-keeps Checked (eqb n 2) _ _ tt tt))

@@ -1,4 +1,4 @@
--- A share by the classes of its lines is the share by their characters.
+-- The share by the classes of the lines is the share by their characters.
 use Prim.Native.Nat.{ℕ}
 use mathlib.Core.Path.{_≡_, refl, ap}
 use mathlib.Core.List.{List, [], _∷_, _++_}

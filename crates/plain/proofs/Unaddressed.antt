@@ -1,4 +1,4 @@
--- An entry acts as the one with address 0 in the place of its own does; entries that differ in their address alone share it.
+-- An entry acts like the same entry with address 0; entries that differ only in their address have that one in common.
 use Prim.Native.Nat.{ℕ}
 use mathlib.Core.Path.{_≡_, refl, sym, ap, _∙_}
 use mathlib.Core.List.{List, [], _∷_, map, foldl}
@@ -12,7 +12,7 @@ use Rattle.field.specs.Fields.{actOf}
 use Rattle.plain.specs.Plain.{stepOf, replyTo, releasesOf}
 use Rattle.plain.specs.Unaddressed.{unaddressed, AddressUnread, AddressesUnread}
 
--- an entry with no address gets 0 for one
+-- an entry without its address, given address 0
 abbrev atZero : Entry → Entry
 atZero (field t p) = field t (0 ∷ p)
 atZero (line kept spoiled) = line kept spoiled

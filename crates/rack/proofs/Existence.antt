@@ -1,4 +1,4 @@
--- Demand 3 speaks of runs, and there are runs: every list that fits and every list of calls has one.
+-- Demand 3 is about runs, and there are runs: every list that fits has one for every list of calls.
 use Prim.Native.Nat.{ℕ, _≤_}
 use mathlib.Core.Path.{_≡_, refl, sym, ap, subst, _∙_}
 use mathlib.Core.List.{List, [], _∷_, _++_}
@@ -21,7 +21,7 @@ use Rattle.calls.specs.Calls.{refusal, Answered, callAs}
 use Rattle.fitting.specs.Fitting.{goodList}
 use Rattle.rack.specs.Demand3.{Through, Leads, Run, setupOf}
 
--- a record with this view; its line holds the kept characters alone, where the code's array has 64 bytes
+-- a record with this view; its line holds only the kept characters, where the code's array has 64 bytes
 abbrev pub packed : wire.Rack Supply → Rack
 packed v =
     record {
@@ -33,7 +33,7 @@ packed v =
 pub view-is : (v : wire.Rack Supply) → viewOf (packed v) ≡ v
 view-is v = let e = take-all (length (v .wire .kept)) (v .wire .kept) (omega arith) in rw e refl
 
--- an answer as a call on the rack m has it, and the buffer that it leaves
+-- an answer that a call on the rack m may return, and the buffer that it leaves
 abbrev pub answerAs : Rack → wire.CallResult Supply → Answer
 answerAs m (wire.refused n) = refusal m n
 answerAs m (wire.done q used t) = record { code = 0; rack = packed q; used = used; length = length t }

@@ -1,4 +1,4 @@
--- A fitting list as a whole, taken or refused.
+-- A fitting list as a whole, accepted or refused.
 use Prim.Native.Nat.{ℕ}
 use mathlib.Core.Path.{_≡_, refl, sym, subst, _∙_}
 use mathlib.Core.List.{List}
@@ -24,7 +24,7 @@ module _ (l : List ℕ) (g : Bool) (e : g ≡ allAllowed l) (q : Rack) where
       let bad : goodList l ≡ false = rw (← e) t in
       record { refuses = λ f. (refl, d); makes = λ h. absurd (true≢false (sym h ∙ bad)) }
 
--- taken or refused, the line of the rack is short
+-- accepted or refused, the line of the rack is short
 pub fitted-small : (l : List ℕ) (f : Fitted) → FitDoes l f → Able (f .rack)
 fitted-small l f d = byTest (goodList l) refl
   where

@@ -1,4 +1,5 @@
--- Demand 3 of the code: each call's equation, chained from the fitting list on, makes the rack the one of the definitions.
+-- Demand 3 for the code: each call's equation, chained from the fitting list on, makes the rack the one of the
+-- definitions.
 use Prim.Native.Nat.{ℕ}
 use mathlib.Core.Path.{_≡_, sym, ap, subst, _∙_}
 use mathlib.Core.List.{List, [], _∷_}

@@ -1,4 +1,4 @@
--- What each kind of byte does to the line of the code, as the definitions see it.
+-- What each kind of byte does to the code's line, as the definitions see it.
 use mathlib.Core.Path.{_≡_}
 use mathlib.Core.Bool.{true}
 use mathlib.Core.List.{[], _∷_, _++_}
@@ -45,7 +45,7 @@ module _ (l : Line) (b : ℕ) (wide : length (l .kept) ≡ 64) (h : Short l) whe
   unfolding charOn
   typed-full p q s = record { small = h; is = rw (ne-eqb b 10 p, ne-eqb b 8 q, length-take-le (l .count) (l .kept) (omega arith), le-ltb (l .count) 64 s) }
 
--- what holds of the line before, and of each thing that such a byte can make of it, holds of the line after
+-- what holds for the line before, and for each thing that such a byte can make of it, holds for the line after
 pub char-keeps : (P : Wire → Type 0) (w : Wire) (b : ℕ) → P w
     → P (record { kept = take (length (w .kept) - 1) (w .kept); spoiled = w .spoiled; sel = w .sel })
     → P (record { kept = w .kept ++ (b ∷ []); spoiled = w .spoiled; sel = w .sel })

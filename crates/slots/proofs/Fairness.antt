@@ -1,4 +1,4 @@
--- Room for replies: what a line's end and what a character draw.
+-- Room for replies: what the end of a line draws, and what a character draws.
 use Prim.Native.Nat.{ℕ, _+_, _-_, _*_, _^_, _≤_, _<_, min}
 use mathlib.Core.Path.{_≡_, refl, sym}
 use mathlib.Core.List.{List, [], append-nil}
@@ -71,7 +71,7 @@ module _ (r : Rack) (s : Supply) (z : Sized s) (here : fitted (r .setup) (r .lin
   class-wire global = (refl, refl)
   class-wire other = (refl, refl)
 
-  -- a line's end
+  -- the end of a line
   pub ended-fair : Fair r (endedBy r) 1
   ended-fair =
       let k = class-wire (classOf (w .kept) (w .spoiled)) in

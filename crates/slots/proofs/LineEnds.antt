@@ -1,4 +1,4 @@
--- A line at its CR, of the line and one supply: what holds in a rack holds whatever the other slots are.
+-- A line at its CR, for the line and one supply: what holds in one rack holds whatever the other slots are.
 use Prim.Native.Nat.{ℕ}
 use mathlib.Core.Path.{_≡_, refl, sym, ap, _∙_}
 use mathlib.Core.Bool.{Bool, true, false, true≢false}
@@ -50,7 +50,7 @@ module _ (u : Setup) (l : Line) (s : Supply) (b : List ℕ) (at : ℕ) where
   pub ends-unheard : (a : ℕ) → l .selected ≡ a → EndsByClass u l s (faulty []) (endedAs a s at) b at b
   ends-unheard a is = rw (← is) (still (faulty []) (l .selected) at b (λ ss. unheard (rackIs ss l u) b at (clearedTo l (l .selected)) (cleared-to (l .selected))))
 
-  -- a is the slot selected
+  -- a is the selected slot
   module _ (a : ℕ) (is : l .selected ≡ a) where
     abbrev c : Cleared (clearedTo l (l .selected)) (l .selected)
     c = cleared-to (l .selected)
@@ -76,7 +76,7 @@ module _ (u : Setup) (l : Line) (s : Supply) (b : List ℕ) (at : ℕ) where
     pub ends-nobody : (x : Act) (t : Bool) → fitted u a ≡ false → Asked u l s x t (endedAs a s at) b at b
     ends-nobody x t f h = rw (← is) (still other (l .selected) at b (λ ss. asked-nobody (rackIs ss l u) b at (clearedTo l (l .selected)) (here false f) c))
 
-  -- a line in error is one to the slot selected, which draws its code
+  -- a line in error is one for the selected slot, which draws its error code
   ends-error : (c : ℕ) (t : Bool) (e : Ended) (b′ : List ℕ) → heardOf (take (l .count) (l .kept)) (l .spoiled) ≡ heardAs (Error c) t → EndsByClass u l s (faulty (replyOf t (codeText c))) e b at b′ → EndsByClass u l s other e b at b′
   ends-error c t e b′ h m ss k i f = in-error (rackIs ss l u) b at c t (rackIs (set ss k (e .supply)) (clearedTo l (e .selected)) u) (e .next) b′ h (m ss k i f)
 

@@ -1,4 +1,4 @@
--- Each way of a line's end, as the code has it, is what the definitions say of its class.
+-- Each way for a line to end, as in the code, is what the definitions say about its class.
 use Prim.Native.Nat.{ℕ, _≤_}
 use mathlib.Core.Path.{_≡_, refl, sym, ap, _∙_}
 use mathlib.Core.List.{List, [], append-nil}
@@ -32,7 +32,7 @@ use Rattle.plain.specs.Plain.{plainSupply, stepOf, replyTo}
 use Rattle.slots.specs.declared.Rack.{Rack}
 use Rattle.slots.specs.View.{rackIs, Moves}
 
--- the line after its CR, with a slot selected
+-- the line after its CR, with this slot selected
 pub record Cleared (l : Line) (sel : ℕ) : Type 0 where
   pub small : Short l
   pub is : wireOf l ≡ record { kept = []; spoiled = false; sel = sel }
@@ -70,7 +70,7 @@ module _ (r : Rack) (b : List ℕ) (at : ℕ) where
       ap (λ (x : Asks). eachTo (λ a s. pick (fitted u a) (obeyed (modelAt u a) s x) s) 31 ss) (sym h) ∙ deliver-all plainSupply u ss (line (w .kept) (w .spoiled)) 31 n in
       record { small = c .small; view = rw (e, c .is, d) refl; said = put-none b at }
 
-  -- a line for the slot selected: its supply steps and replies
+  -- a line for the selected slot: its supply steps and replies
   pub asked : (a : Act) (t : Bool) (m : ℕ) (x y : Supply) (after : List Supply) (l : Line) (n : ℕ) (b′ : List ℕ)
       → fitted u (w .sel) ≡ true → m ≡ modelAt u (w .sel) → x ≡ getD ss (w .sel) (fresh 255) → y ≡ performed m x a → after ≡ set ss (w .sel) y → Cleared l (w .sel)
       → Put b at (replyOf t (saidOf m x a)) n b′
@@ -87,7 +87,7 @@ module _ (r : Rack) (b : List ℕ) (at : ℕ) where
   pub asked-nobody : (l : Line) → fitted u (w .sel) ≡ false → Cleared l (w .sel) → Moves r (byClass u w other) (rackIs ss l u) b at at b
   asked-nobody l f c = record { small = c .small; view = rw (f, c .is) refl; said = rw f (put-none b at) }
 
-  -- a line in error leaves its supply as it is, and draws its code
+  -- a line in error leaves its supply as it is, and draws its error code
   pub in-error : (c : ℕ) (t : Bool) (q : Rack) (n : ℕ) (b′ : List ℕ)
       → heardOf (w .kept) (w .spoiled) ≡ heardAs (Error c) t
       → Moves r (byClass u w (faulty (replyOf t (codeText c)))) q b at n b′

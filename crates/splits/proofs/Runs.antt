@@ -1,4 +1,4 @@
--- The rack that fields lead to, fed behind any run, is by its view the rack of a longer run: demand 3 speaks of it too.
+-- The rack that fields reach after any run has the view of the rack of a longer run: demand 3 applies to it too.
 use Prim.Native.Nat.{ℕ, zero, suc, _+_, _≤_}
 use mathlib.Core.Bool.{Bool, true, false}
 use mathlib.Core.Path.{_≡_, refl, sym, ap, subst, _∙_}
@@ -33,7 +33,7 @@ leads-then (c ∷ cs) ds r q p t h =
 one-call : (m : Rack) (s : List ℕ) (q : wire.Rack Supply) (n : ℕ) (t : List ℕ) → length (q .wire .kept) ≤ 64 → callOf plainSupply (viewOf m) (fieldAt s) ≡ done q n t → Leads m (fieldAt s ∷ []) (packed q)
 one-call m s q n t short e = through m (fieldAt s) (λ p. packed q ≡ p) (rw e short) (ap (λ (w : wire.CallResult Supply). answerAs m w .rack) (sym e))
 
--- and so a run is longer by it
+-- and so it makes a run longer
 short-after : (u : Setup) (cs : List Call) (m : Rack) → Run u cs m → (s : List ℕ) (q : wire.Rack Supply) (n : ℕ) (t : List ℕ) → callOf plainSupply (viewOf m) (fieldAt s) ≡ done q n t → length (q .wire .kept) ≤ 64
 short-after u cs m g s q n t e =
     let last : run plainSupply u (cs ++ fieldAt s ∷ []) ≡ q = run-more _ cs (fieldAt s) ∙ rw (← run-seen u cs m g .is, e) refl in
@@ -63,7 +63,7 @@ none-more u cs v h = rw append-nil h
 joined : (u : Setup) (cs : List Call) (c : Call) (ds : List Call) (q : wire.Rack Supply) → Reached u (cs ++ c ∷ [] ++ ds) q → Reached u (cs ++ (c ∷ ds)) q
 joined u cs c ds q h = rw append-assoc at h
 
--- fields in turn, behind a run, are a run that is longer by their calls
+-- fields in turn, after a run, are a run that is longer by their calls
 module _ (u : Setup) (stop : ℕ → Bool) (s : List ℕ) where
   run-step : (n : ℕ) (cs : List Call) (v : wire.Rack Supply) (used : ℕ) (said : List ℕ) → Reached u cs v
       → ((es : List Call) (q : wire.Rack Supply) (k : ℕ) (t : List ℕ) → Reached u es q → Reached u (es ++ callsFrom n stop s q k t) (fieldsFrom n stop s q k t .rack))
@@ -86,7 +86,7 @@ module _ (u : Setup) (stop : ℕ → Bool) (s : List ℕ) where
   fields-run zero cs v used said h = none-more u cs v h
   fields-run (suc n) cs v used said h = run-step n cs v used said h (λ es q k t. fields-run n es q k t) (callOf plainSupply v (fieldAt (drop used s))) refl
 
--- FIELDS WORKED BEHIND A RUN ARE A LONGER RUN
+-- FIELDS WORKED AFTER A RUN ARE A LONGER RUN
 pub cycle-run : (u : Setup) (calls : List Call) (r : Rack) → Run u calls r → (stop : ℕ → Bool) (s : List ℕ) (q : wire.Rack Supply) (used : ℕ) (said : List ℕ) (n : ℕ) → ran q used said n ≡ fieldsOn stop (viewOf r) s
     → Reached u (calls ++ callsOn stop (viewOf r) s) q
 cycle-run u calls r g stop s q used said n e =

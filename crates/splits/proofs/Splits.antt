@@ -1,4 +1,4 @@
--- However the input is cut: fields in turn are those of the whole input, which is one function of it.
+-- However the input is split: fields in turn are those of the whole input, which is one function of it.
 use Prim.Native.Nat.{ℕ, _+_, _≤_}
 use mathlib.Core.Path.{_≡_, refl, sym, ap, _∙_}
 use mathlib.Core.Bool.{Bool, true, false, true≢false, _||_}
@@ -25,7 +25,7 @@ use Rattle.engine.proofs.Cycles.{all-within, all-ended, all-longer, all-still, 
 use Rattle.splits.specs.Splits.{Waits, Final, Reads, nothing, read, Ends, Whole, SplitsMakeNoDifference}
 use Rattle.splits.proofs.Runs.{cycle-run, Reached}
 
--- a field that waits for its other bytes has 18 at most
+-- a field that waits for its remaining bytes has at most 18
 pub waiting-short : (v : wire.Rack Supply) (s : List ℕ) (n : ℕ) → callOf plainSupply v (fieldAt s) ≡ refused n → Waits n → length s ≤ 18
 unfolding callOf parse
 waiting-short v s n e w = lacking-short (fitted (v .setup)) s (byCode w)
@@ -59,7 +59,7 @@ so-far v k s b q kept said n (read k₀ s₀ b₀ q₀ kept₀ said₀ n₀ r wa
       kept-is = ap (drop used) (rest ∙ sym cut) ∙ drop-drop used (f .used) (s₀ ++ c);
     }
 
--- THE WHOLE INPUT: bytes that are not read do not count where the refusal is final
+-- THE WHOLE INPUT: unread bytes make no difference if the refusal is final
 pub whole : (v : wire.Rack Supply) (input : List ℕ) (q : wire.Rack Supply) (said : List ℕ) (n : ℕ) → Ends v input q said n → Whole v input q said n
 whole v input q said n d =
     let f = so-far v (d .count) (d .bytes) (d .last) q (d .kept) said n (d .reads) in
@@ -69,7 +69,7 @@ whole v input q said n d =
     byEnd f (inl none-left) = rw (none-left, append-nil) (all-ended (d .bytes) [] v q (f .used) said n (f .is))
     byEnd f (inr final) = refused-longer q (drop (f .used) (d .bytes)) (d .unread) n (all-ended (d .bytes) [] v q (f .used) said n (f .is)) (final .0) (final .1)
 
--- HOWEVER THE INPUT IS CUT
+-- HOWEVER THE INPUT IS SPLIT
 pub splits-make-no-difference : SplitsMakeNoDifference
 splits-make-no-difference v input q₁ said₁ n₁ d₁ q₂ said₂ n₂ d₂ =
     let f = whole v input q₁ said₁ n₁ d₁ in
@@ -77,14 +77,14 @@ splits-make-no-difference v input q₁ said₁ n₁ d₁ q₂ said₂ n₂ d₂ 
     let same : ran q₁ (f .used) said₁ n₁ ≡ ran q₂ (g .used) said₂ n₂ = f .is ∙ sym (g .is) in
     (ap (λ (R : Ran). R .rack) same, ap (λ (R : Ran). R .said) same, ap (λ (R : Ran). R .code) same)
 
--- and what was read is a run of its fields, so that demand 3 speaks of the rack that it leads to
+-- and what was read is a run of its fields, so demand 3 applies to the rack that it reaches
 pub reads-run : (u : Setup) (calls : List Call) (r : Rack) → Run u calls r → (k : ℕ) (s b : List ℕ) (q : wire.Rack Supply) (kept said : List ℕ) (n : ℕ) → Reads (viewOf r) k s b q kept said n
     → Reached u (calls ++ callsOn never (viewOf r) s) q
 reads-run u calls r g k s b q kept said n d =
     let f = so-far (viewOf r) k s b q kept said n d in
     cycle-run u calls r g never s q (f .used) said n (f .is)
 
--- the two kinds of refusal, told apart by a test
+-- the two kinds of refusal, distinguished by a test
 pub waits-is : (n : ℕ) → (eqb n 2 || eqb n 5) ≡ true → Waits n
 waits-is n t = byTest (eqb n 2) refl t
   where

@@ -1,4 +1,4 @@
--- What a read leaves behind the bytes that are kept, and the number at the end.
+-- What a read leaves after the kept bytes, and the number at the end.
 use Prim.Native.Nat.{ℕ, _-_, _≤_}
 use mathlib.Core.Path.{_≡_, refl, ap, _∙_}
 use mathlib.Core.Bool.{Bool, true, false, not, _&&_}

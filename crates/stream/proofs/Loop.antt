@@ -1,5 +1,5 @@
--- The loop of a program: each cycle continues the cycles before it, what waits for other bytes is short, so that a read has room, and
--- the reads that may be made and the bytes that are left grow fewer.
+-- The loop of a program: each cycle continues the cycles before it; a field that waits for more bytes is short, so a
+-- read has room; and the reads that may be made and the bytes that are left decrease.
 use Prim.Native.Nat.{ℕ, _+_, _-_, _*_, _≤_, _<_}
 use mathlib.Core.Path.{_≡_, refl, sym, ap, _∙_}
 use mathlib.Core.Bool.{Bool, true, false, _&&_, _||_, and-eq-true-iff}
@@ -21,7 +21,8 @@ use Rattle.splits.proofs.Splits.{waits-is, waiting-short}
 use Rattle.stream.specs.declared.Block.{Block}
 use Rattle.stream.specs.Stream.{unworked, Refilled, goesOn, Cycles, none-yet, cycle-on}
 
--- where the loop stands: the cycles that were made, and that it goes on only where no field was refused or where bytes may be read
+-- where the loop stands: the cycles that were made, and that it goes on only if no field was refused or if bytes may be
+-- read
 pub record At (v q : wire.Rack Supply) (room : List ℕ) (b : Block) (code : ℕ) (more : Bool) : Type 0 where
   pub low : b .from ≤ b .end
   pub high : b .end ≤ length room
@@ -48,7 +49,7 @@ has-room g long z = (omega (arith, long, g .goes refl z .0), g .goes refl z .1)
 abbrev Refills : ℕ → List ℕ → List ℕ → Block → Block → Type 0
 Refills code room room′ b n = (code ≡ 0 → (n ≡ b) × (room′ ≡ room)) × ((code ≡ 0 → ⊥) → Refilled (unworked room b) room′ b n)
 
--- the bytes for the next cycle: those that were kept, and some behind them
+-- the bytes for the next cycle: the kept ones, and some after them
 record Ready (room room′ : List ℕ) (b n : Block) : Type 0 where
   pub low : n .from ≤ n .end
   pub high : n .end ≤ length room′
@@ -74,7 +75,7 @@ module _ {v q : wire.Rack Supply} {room room′ : List ℕ} {b n : Block} {code 
             is = rw (d .from-is) (sym (take-append-drop (length kept) all) ∙ ap (λ (l : List ℕ). l ++ drop (length kept) all) (d .first));
           }
 
--- the block behind a cycle that used k bytes
+-- the block after a cycle that used k bytes
 abbrev pub past : Block → ℕ → Block
 past n k = record { from = n .from + k; end = n .end; brought = n .brought; failed = n .failed; reads = n .reads }
 
@@ -84,7 +85,7 @@ goes-by sent code n t z =
     let both = and-eq-true-iff ((eqb code 2 || eqb code 5) && n .brought) (ltb 0 (n .reads)) .0 (rw (ne-eqb code 0 z) at either) in
     (waits-is code (and-eq-true-iff (eqb code 2 || eqb code 5) (n .brought) .0 (both .0) .0), ltb-true 0 (n .reads) (both .1))
 
--- the loop ends: a read makes the reads fewer, and a cycle behind one that was not refused makes the bytes fewer
+-- the loop ends: a read leaves fewer reads, and a cycle after one that was not refused leaves fewer bytes
 abbrev pub weight : Block → ℕ → ℕ
 weight b code = b .reads * 8194 + (b .end - b .from + bit (eqb code 0))
 
@@ -108,7 +109,7 @@ weighs-less b n code k after low high some same fewer within spends = by-code co
     less z true = omega (arith, some z, fewer z, high)
     less z false = omega (arith, some z, fewer z, high)
 
--- A CYCLE MORE: what refill and the cycle behind it leave
+-- ONE MORE CYCLE: what refill and the cycle after it leave
 pub record OneCycle (v p : wire.Rack Supply) (room : List ℕ) (b n : Block) (code k after : ℕ) (sent : Bool) : Type 0 where
   pub within : n .from + k ≤ n .end
   pub less : weight (past n k) after < weight b code

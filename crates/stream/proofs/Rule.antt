@@ -1,4 +1,5 @@
--- What cycles hand on is a beginning of the true reply stream: a cycle takes its part off the front of what is still to be said.
+-- What cycles hand on is a prefix of the true reply stream: a cycle takes its part off the front of what is still to be
+-- said.
 use Prim.Native.Nat.{ℕ}
 use mathlib.Core.Path.{_≡_, refl, sym, ap, _∙_}
 use mathlib.Core.Bool.{Bool}
@@ -12,7 +13,7 @@ use Rattle.engine.proofs.Cycles.{cycle-longer, cycle-all, all-ended, none-there
 use Rattle.stream.specs.Stream.{Cycles, none-yet, cycle-on, replyStream, HandedFirst, AllHanded}
 
 module _ (ending : ℕ) where
-  -- a cycle on the bytes s, whatever comes behind them
+  -- a cycle on the bytes s, whatever comes after them
   said-first : (s x : List ℕ) (stop : ℕ → Bool) (q p : wire.Rack Supply) (used : ℕ) (said : List ℕ) (m : ℕ) → ran p used said m ≡ fieldsOn stop q s
       → replyStream q ending (s ++ x) ≡ map (printed ending) said ++ replyStream p ending (drop used s ++ x)
   said-first s x stop q p used said m e =
@@ -27,7 +28,7 @@ module _ (ending : ℕ) where
         ∙ ap (λ (l : List ℕ). handed₀ ++ l) (ap (replyStream q₀ ending) (sym (append-assoc kept₀ c x)) ∙ said-first (kept₀ ++ c) x stop q₀ p used said m e)
         ∙ sym (append-assoc handed₀ (map (printed ending) said) (replyStream p ending (drop used (kept₀ ++ c) ++ x)))
 
-    -- behind a refusal nothing is left to be said
+    -- after a refusal nothing is left to be said
     rest-silent : (s : List ℕ) (q : wire.Rack Supply) (used : ℕ) (said : List ℕ) (n : ℕ) (p : wire.Rack Supply) → ran q used said n ≡ allFields p s → replyStream q ending (drop used s) ≡ []
     rest-silent s q used said n p e = ap (λ (a : wire.CallResult Supply). map (printed ending) (afterField (fieldsFrom (length (drop used s)) never (drop used s)) never q 0 [] a .said)) (all-ended s [] p q used said n e)
 

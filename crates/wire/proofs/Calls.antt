@@ -1,4 +1,4 @@
--- What a list of calls makes of a rack: it is moved once, by the whole stream.
+-- What a list of calls does to a rack: the whole stream moves it once.
 use mathlib.Core.Path.{_≡_, refl, sym, ap, _∙_}
 use mathlib.Core.Bool.{true, not, false≢true}
 use mathlib.Core.List.{List, [], _∷_, foldl, foldl-append}
@@ -25,7 +25,7 @@ fitted-below u a f = go (u .models) a f
 module _ (M : Plain) where
   open Plain M using (State, step, reply, fresh, grammar)
 
-  -- a refused call leaves the rack, an accepted one moves it by its items
+  -- a refused call leaves the rack as it was, an accepted one moves it by its items
   after-moved : (r : Rack State) (p : Parsed) → after M r (answerOf M r p) ≡ moved M r (scan grammar (r .setup) (r .wire) (items p))
   after-moved r (refuse n) = refl
   after-moved r (accept used is) = refl
@@ -46,7 +46,7 @@ module _ (M : Plain) where
       ∙ sym (moved-twice r s (scan grammar (r .setup) (s .wire) (stream grammar (r .setup) cs)))
       ∙ ap (moved M r) (sym (scan-append grammar (r .setup) (r .wire) is (stream grammar (r .setup) cs)))
 
-  -- the setup stays for the rack's life
+  -- the setup stays the same for the rack's whole life
   pub run-setup : (r : Rack State) (calls : List Call) → runFrom M r calls .setup ≡ r .setup
   run-setup r calls = ap (λ (q : Rack State). q .setup) (run-moved r calls)
 

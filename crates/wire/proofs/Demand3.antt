@@ -1,4 +1,5 @@
--- The proof of specs/Demand3.antt: a single address is a closed group, and takes of its joint share its own share.
+-- The proof of specs/Demand3.antt: a single address is a closed group, and what it takes of its joint share is its own
+-- share.
 use mathlib.Core.Path.{_≡_, refl, sym, ap, _∙_}
 use mathlib.Core.Bool.{Bool, true, false}
 use mathlib.Core.List.{List, [], _∷_, _++_, foldl, foldl-append}
@@ -17,7 +18,7 @@ use Rattle.wire.specs.declared.Setup.{Setup}
 use Rattle.wire.proofs.Machine.{holds-throughout, tripped-off}
 use Rattle.wire.proofs.Groups.{closed, group-ends}
 
--- of the joint share of a single address, the address takes its share
+-- what a single address takes of its joint share is its share
 single-joint : (u : Setup) (a : ℕ) (ds : List Delivery) → flat (forSlot u a) (keep (touching (eqb a)) ds) ≡ flat (forSlot u a) ds
 single-joint u a [] = refl
 single-joint u a (all e ∷ ds) = ap (λ (x : List Entry). forSlot u a (all e) ++ x) (single-joint u a ds)
@@ -31,7 +32,7 @@ single-joint u a (one b e ∷ ds) = byTest (single-joint u a ds) (eqb a b) refl
 module _ (M : Plain) (u : Setup) (a : ℕ) where
   open Plain M using (State, step, fresh, grammar)
 
-  -- an entry taken or not
+  -- an entry, taken or not
   taken : (t : Bool) (e : Entry) (s : State) → pick t (step (modelAt u a) s e) s ≡ foldl (step (modelAt u a)) s (given t e)
   taken true e s = refl
   taken false e s = refl

@@ -1,4 +1,5 @@
--- What every line and every accepted field has, each entry of a share has: nothing else comes into the stream.
+-- What holds for every line and every accepted field holds for each entry of a share: nothing else comes into the
+-- stream.
 use mathlib.Core.Bool.{Bool, true, false}
 use mathlib.Core.List.{List, [], _∷_, _++_}
 use Prim.Native.Nat.{ℕ}
@@ -21,7 +22,7 @@ every-flat P Q f k [] p = tt
 every-flat P Q f k (d ∷ ds) p = every-append Q (f d) (flat f ds) (k d (p .0)) (every-flat P Q f k ds (p .1))
 
 module _ (γ : Grammar) (P : Entry → Type 0) (h : Holds γ P) (u : Setup) where
-  -- of a delivery, P speaks of the entry that it brings
+  -- P holds for a delivery if it holds for the entry that it brings
   abbrev inDelivery : Delivery → Type 0
   inDelivery (one a e) = P e
   inDelivery (all e) = P e

@@ -1,4 +1,5 @@
--- The definitions computed on one list of calls, with a toy supply and a toy grammar: shares, end states, replies, a trip.
+-- The definitions computed on one list of calls, with a toy supply and a toy grammar: shares, final states, replies, a
+-- trip.
 use mathlib.Core.Path.{_≡_, refl, sym}
 use mathlib.Core.Bool.{Bool, true, false, not, _&&_, _||_}
 use mathlib.Core.List.{List, [], _∷_, _++_, map, append-nil}
@@ -17,7 +18,8 @@ use Rattle.wire.specs.Demand3.{TrippedBy}
 use Rattle.wire.specs.declared.Setup.{Setup}
 use Rattle.wire.proofs.Demand3.{demand3}
 
--- THE TOY: a trip, which stands for both; how many fields it has taken; how many entries in all, counted on from the model number
+-- THE TOY: one trip, which stands for both; how many fields it has taken; how many entries in all, counted up from the
+-- model number
 record Toy : Type 0 where
   trip : Bool
   fields : ℕ
@@ -36,7 +38,8 @@ frees : Entry → Bool
 frees (field t p) = false
 frees (line k s) = not s && eqb (getD k 0 0) 82
 
--- "A" and a digit selects, "A.." else is in error; "G.." is global, "G" alone ill-formed; any other line, and every spoiled one, is another
+-- "A" and a digit selects, any other "A.." is in error; "G.." is global, "G" alone is ill-formed; any other line, and
+-- every spoiled one, is `other`
 class : List ℕ → Bool → Class
 class k s =
     pick s other
@@ -74,7 +77,7 @@ serial bs = record { bytes = 1 ∷ bs; room = 8 }
 
 list : List Call
 list =
-    -- ADR over two fields, between them a call that is refused for its buffer
+    -- ADR over two fields, and between them a call that is refused for its buffer
     serial (codes "A") ∷ record { bytes = 1 ∷ codes "9"; room = 7 } ∷ serial (codes "2\rX")
     -- bad bytes; then a backspace, an LF and the CR of "X"
     ∷ record { bytes = []; room = 9 } ∷ record { bytes = 7 ∷ 0 ∷ []; room = 9 } ∷ serial (codes "Y\u{8}\n\r")
@@ -118,7 +121,7 @@ numbers : map (λ c. number (parse grammar setup c)) list ≡ 0 ∷ 1 ∷ 0 ∷ 
 unfolding number parse setup list serial grammar reading
 numbers = refl
 
--- what one call more answers: the bytes used, and the ADR's reply before that of the supply, which is tripped
+-- what one more call returns: the bytes used, and the ADR's reply before that of the supply, which is tripped
 told : CallResult Toy → List ℕ
 told (refused n) = []
 told (done r used t) = used ∷ t
@@ -130,7 +133,7 @@ answer = refl
 data Kind : Type 0 where
   over : Kind
 
--- THE THEOREM, put to the toy: its trips, what holds of its states, its laws
+-- THE THEOREM, applied to the toy: its trips, the invariant of its states, its laws
 abbrev trip : Trips toy
 trip = record { Trip = Kind; isSet = λ k s. s .trip; isOn = λ s. not (s .trip); releases = λ m k s e. frees e }
 
@@ -148,7 +151,7 @@ laws m =
       frees = λ k s e q. rw q;
     }
 
--- slot 2 is tripped by its first entry; the global and the spoiled line after it are no releases
+-- slot 2 is tripped by its first entry; the global and the spoiled line after it are not releases
 tripped-2 : TrippedBy toy trip 5 over (shareOf grammar setup list 2)
 unfolding trips frees
 tripped-2 =

@@ -1,4 +1,5 @@
--- What code does, against the definitions: an item of the stream, a slot replaced, a loop over the slots, one reply after the other.
+-- The code's operations against the definitions: an item of the stream, a slot replaced, a loop over the slots, one
+-- reply after another.
 use mathlib.Core.Path.{_≡_, refl, sym, ap, _∙_}
 use mathlib.Core.Bool.{Bool, true, false}
 use mathlib.Core.List.{List, [], _∷_, _++_, foldl, append-assoc, append-nil}
@@ -24,7 +25,7 @@ pub model-past : (u : Setup) (a : ℕ) → length (u .models) ≤ a → modelAt 
 model-past u a h = List·getD-eq-default (u .models) 255 h
 
 module _ (γ : Grammar) (u : Setup) where
-  -- one item more of a stream
+  -- one more item of a stream
   pub scan-more : (w : Wire) (is : List Item) (i : Item) → scan γ u w (is ++ i ∷ []) ≡ followed (scan γ u w is) (itemOn γ u (scan γ u w is .wire) i)
   scan-more w is i = rw (scan-append γ u w is (i ∷ []), append-nil)
 
@@ -51,12 +52,13 @@ module _ (M : Plain) (u : Setup) where
   pub deliver-say : (ss : List State) (t : List ℕ) → deliver M u ss (say t) ≡ ss
   deliver-say ss t = tabulate-same (fresh 255) ss
 
-  -- replies come one delivery after the other, each from the slots as those before left them
+  -- replies come one delivery after another, each from the slots as the earlier ones left them
   pub replies-append : (ss : List State) (ds es : List Delivery) → replies M u ss (ds ++ es) ≡ replies M u ss ds ++ replies M u (foldl (deliver M u) ss ds) es
   replies-append ss [] es = refl
   replies-append ss (d ∷ ds) es = rw (replies-append (deliver M u ss d) ds es, append-assoc)
 
--- a turn of the loop over a call's items: what the next one does to the rack, and replies, on the rack as the turns before left it
+-- a cycle of the loop over a call's items: what the next item does to the rack, and its reply, on the rack that the
+-- earlier cycles left
 module _ (M : Plain) (r : Rack (M .State)) (is : List Item) (i : Item) where
   open Plain M using (State, grammar)
 

@@ -1,4 +1,4 @@
--- A closed group of slots ends, after any list of calls, as its plain supplies do on the joint share.
+-- After any list of calls a closed group of slots ends as its plain supplies do on the joint share.
 use mathlib.Core.Path.{_≡_, refl, sym, ap, _∙_}
 use mathlib.Core.Bool.{Bool, true, false, false≢true}
 use mathlib.Core.List.{List, [], _∷_, foldl}

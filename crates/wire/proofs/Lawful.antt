@@ -1,4 +1,5 @@
--- The line of every rack that calls lead to is in bounds: at most 64 characters kept, nobody or a fitted slot selected.
+-- The line of every rack reached by calls is in bounds: at most 64 characters are kept, and nobody or a fitted slot is
+-- selected.
 use mathlib.Core.Path.{_≡_, refl}
 use mathlib.Core.Logic.{_⊎_, inl, inr}
 use mathlib.Core.Bool.{Bool, true, false}
@@ -15,7 +16,7 @@ use Rattle.wire.specs.Rack.{Plain, Rack, runFrom, freshRack, run}
 use Rattle.wire.specs.declared.Setup.{Setup}
 use Rattle.wire.proofs.Calls.{run-moved}
 
--- a choice has what each of its branches has
+-- what holds for each branch of a choice holds for the choice
 pick-has : {A : Type 0} (P : A → Type 0) (t : Bool) {x y : A} → (t ≡ true → P x) → (t ≡ false → P y) → P (pick t x y)
 pick-has P true p q = p refl
 pick-has P false p q = q refl
@@ -60,7 +61,7 @@ module _ (γ : Grammar) (u : Setup) where
 module _ (M : Plain) where
   open Plain M using (State, grammar)
 
-  -- at most 64 characters are kept, and a slot that is selected is fitted, after every list
+  -- after every list at most 64 characters are kept, and a selected slot is fitted
   pub run-lawful : (r : Rack State) (calls : List Call) → LawfulWire (r .setup) (r .wire) → LawfulWire (r .setup) (runFrom M r calls .wire)
   run-lawful r calls h = rw (run-moved M r calls) (scan-lawful grammar (r .setup) (r .wire) (stream grammar (r .setup) calls) h)
 

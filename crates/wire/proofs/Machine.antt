@@ -1,5 +1,5 @@
--- Laws of any machine that inputs move: a trip holds until a release, an invariant holds everywhere, and a group's states are
--- moved by what touches the group.
+-- Laws of any machine that inputs move: a trip holds until a release, an invariant holds everywhere, and only what
+-- touches a group moves its states.
 use mathlib.Core.Path.{_≡_, refl, ap, _∙_}
 use mathlib.Core.Bool.{Bool, true, false, false≢true}
 use mathlib.Core.List.{List, [], _∷_, _++_, foldl, foldl-append, append-assoc}
@@ -23,12 +23,12 @@ flat-append f [] ys = refl
 flat-append f (x ∷ xs) ys = rw (flat-append f xs ys, append-assoc)
 
 module _ {X E : Type 0} (act : X → E → X) where
-  -- what every input keeps holds everywhere
+  -- what every input preserves holds everywhere
   pub holds-throughout : (I : X → Type 0) → ((x : X) (e : E) → I x → I (act x e)) → (x : X) (es : List E) → I x → I (foldl act x es)
   holds-throughout I k x [] i = i
   holds-throughout I k x (e ∷ es) i = holds-throughout I k (act x e) es (k x e i)
 
-  -- and what every input with P keeps holds behind a list of such inputs
+  -- and what every input with P preserves holds after a list of such inputs
   pub holds-along : (P : E → Type 0) (I : X → Type 0) → ((x : X) (e : E) → P e → I x → I (act x e))
       → (x : X) (es : List E) → Every P es → I x → I (foldl act x es)
   holds-along P I k x [] p i = i
@@ -43,14 +43,14 @@ module _ {X E : Type 0} (act : X → E → X) where
         byTest ih true q = absurd (false≢true (rw q at n))
         byTest ih false q = ih (held x e f q) (rw q at n)
 
-    -- where a flag that is set means off, a tripped machine is off
+    -- if a set flag means off, a tripped machine is off
     pub tripped-off : (on : X → Bool) → ((x : X) → flag x ≡ true → on x ≡ false) → (start : X) (es : List E) → Tripped act start flag rel es → on (foldl act start es) ≡ false
     tripped-off on shut start es t =
         rw (t .splits, foldl-append act start (t .before) (t .entry ∷ t .mid))
         (shut _ (stays-set (act (foldl act start (t .before)) (t .entry)) (t .mid) (t .trips) (t .unreleased)))
 
--- THE PROJECTION: states in a list, moved by `next` at each place, seen from the places of g, are moved as by `other` and by those
--- inputs alone that touch g.
+-- THE PROJECTION: `next` moves the states in a list at each place; seen from the places of g, they move as by `other`,
+-- and only by the inputs that touch g.
 module _ {S D : Type 0} (none : S) (next other : (ℕ → S) → D → ℕ → S) (g : ℕ → Bool) (touches : D → Bool) (n : ℕ)
     (inside : (a : ℕ) → g a ≡ true → a < n)
     (local : (f h : ℕ → S) (d : D) → ((a : ℕ) → g a ≡ true → f a ≡ h a) → touches d ≡ true → (a : ℕ) → g a ≡ true → next f d a ≡ other h d a)

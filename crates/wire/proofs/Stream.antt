@@ -1,4 +1,5 @@
--- The line's one pass over the stream hands out what the share's passes read off it; and both may be cut anywhere.
+-- The line's single pass over the stream hands out what the passes of the share find in it; and both may be split
+-- anywhere.
 use mathlib.Core.Path.{_≡_, refl, ap, _∙_}
 use mathlib.Core.Bool.{Bool, true, false}
 use mathlib.Core.List.{List, [], _∷_, _++_, foldl-append, append-assoc}
@@ -13,7 +14,7 @@ use Rattle.wire.specs.Share.{items, stream, TypedLine, typing, typed, ar
 use Rattle.wire.specs.declared.Setup.{Setup}
 use Rattle.wire.proofs.Machine.{keep-append, flat-append}
 
--- does the delivery bring an entry, and not a reply of the line's own
+-- whether the delivery brings an entry, and not a reply of the line's own
 abbrev pub brings : Delivery → Bool
 brings (one a e) = true
 brings (all e) = true
@@ -47,7 +48,7 @@ unfolding typed
 typed-more bs b = foldl-append typing (record { kept = []; spoiled = false }) bs (b ∷ [])
 
 module _ (u : Setup) where
-  -- a line at its CR: to whom it goes, and the line after it
+  -- a line at its CR: who takes it, and the line after it
   at-cr : (w : Wire) (c : Class) → keep brings (byClass u w c .sent) ≡ handed u (w .sel) (line (w .kept) (w .spoiled)) c
   at-cr w (select a t) = said (fitted u a) t
   at-cr w (faulty t) = said (fitted u (w .sel)) t
@@ -65,7 +66,7 @@ module _ (γ : Grammar) (u : Setup) where
   unfolding byteOn
   on-cr w = refl
 
-  -- any byte but CR only types
+  -- any byte other than CR only types
   pub on-other : (w : Wire) (b : ℕ) → eqb b 13 ≡ false → byteOn γ u w b ≡ quiet (charOn w b)
   unfolding byteOn
   on-other w b r = rw r refl
@@ -91,12 +92,13 @@ module _ (γ : Grammar) (u : Setup) where
           (rw typed-none at (ih (selected u sel (γ .classOf (typed bs .kept) (typed bs .spoiled))) [])))
       byCR ih false q = rw (q, on-char sel (typed bs) b q, ← typed-more bs b) (ih sel (bs ++ b ∷ []))
 
-  -- what the rack hands out over a list of calls, its own replies left out, is what the share's passes find in the list
+  -- what the rack hands out over a list of calls, apart from its own replies, is what the passes of the share find in
+  -- the list
   pub sent-brought : (calls : List Call) → keep brings (scan γ u freshWire (stream γ u calls) .sent) ≡ brought γ u calls
   unfolding brought typed
   sent-brought calls = one-pass nobody [] (stream γ u calls)
 
-  -- the stream may be cut anywhere: the line carries over
+  -- the stream may be split anywhere: the line carries over
   pub scan-append : (w : Wire) (is js : List Item) → scan γ u w (is ++ js) ≡ followed (scan γ u w is) (scan γ u (scan γ u w is .wire) js)
   scan-append w [] js = refl
   scan-append w (i ∷ is) js = rw (scan-append (itemOn γ u w i .wire) is js, append-assoc)
@@ -111,6 +113,6 @@ module _ (γ : Grammar) (u : Setup) (past rest : List Call) where
       rw (← sent-brought γ u (past ++ rest), ← sent-brought γ u past, flat-append (λ c. items (parse γ u c)) past rest, scan-append γ u freshWire (stream γ u past) (stream γ u rest))
       (keep-append brings (scan γ u freshWire (stream γ u past) .sent) _)
 
-  -- the share of a list's beginning is a beginning of its share
+  -- the share of a prefix of a list is a prefix of its share
   pub share-grows : (a : ℕ) → (more : List Entry) × (shareOf γ u (past ++ rest) a ≡ shareOf γ u past a ++ more)
   share-grows a = (flat (forSlot u a) later, rw brought-grows (flat-append (forSlot u a) (brought γ u past) later))

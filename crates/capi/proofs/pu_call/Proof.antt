@@ -1,6 +1,7 @@
--- `pu_call` meets its contract: a walk of its MIR, by hand, as the rack is behind a reference. The borrow of the rack is opened
--- and the rack copied out; `call` runs on the copy, at the slices' own lifetimes; the rack of its answer goes back behind the
--- reference, and the rest of it is returned. All that the proof knows of `call` is that it meets its contract.
+-- `pu_call` meets its contract: a walk through its MIR, by hand, as the rack is behind a reference. The borrow of the
+-- rack is opened and the rack copied out; `call` runs on the copy, at the slices' own lifetimes; the rack of its answer
+-- goes back behind the reference, and the rest of the answer is returned. All that the proof knows about `call` is that
+-- it meets its contract.
 use mathlib.Core.Path.{_≡_, refl, ap}
 use Prim.Native.Nat.{ℕ, _<_, _^_}
 use mathlib.Core.List.{[], _∷_, List}
@@ -69,7 +70,7 @@ stayed = (stay-ref (0 ∷ []) tt (plain (λ _. R.the-row)), (stay-dropped BytesS
 abbrev Call : {M : Type 1} (𝓤 : URA M) (H : Heap 𝓤) (A : Atoms 𝓤) (mem : Memory → SProp 𝓤) (run : Routine → Fun 𝓤) → Contract 𝓤
 Call 𝓤 H A mem run = tripleOf 𝓤 H A call.signature (call.spec 𝓤 H A mem run)
 
--- what whoever holds an answer at its machine value knows of its fields
+-- what anyone who holds an answer at its machine value knows about its fields
 module _ (r : Answer) (v : Val) (is : Is T.the-row r (v ∷ [])) where
   code-fits : r .code < 2 ^ 8
   code-fits = LL.owed T.the-type T′.the-laws r (v ∷ []) is .0 .1
@@ -116,7 +117,7 @@ module _ {M : Type 1} (𝓤 : URA M) (H : Heap 𝓤) (A : Atoms 𝓤) (W : Given
   abbrev Post : Val → SProp 𝓤
   Post = walkOf 𝓤 H A f.ended stayed (f.clauses 𝓤 H A at-mem run) .post (((κ, (κ₁, (κ₂, tt))), (q, (q₁, (q₂, tt))), tt, a, vals), tt)
 
-  -- what `call` says of its answer r and of the last reply zs
+  -- what `call` says about its answer r and the last reply zs
   abbrev Said : Answer → List ℕ → Type 0
   Said r zs = CallDoes h (now xb) (now xr) r zs
 

@@ -1,6 +1,7 @@
--- `nap` meets its contract: a walk of its MIR, by hand. Two structs are made in locals, one is lent as `&` and the other as `&mut`, each for a lifetime that the walk makes; `nanosleep` is called; both lifetimes are ended, and the locals' memory comes back and is freed.
--- All that the proof knows of `nanosleep` is that it meets its contract, of which it uses nothing but that a number is returned.
--- Assumes nothing of its own.
+-- `nap` meets its contract: a walk through its MIR, by hand. Two structs are made in locals, one is lent as `&` and the
+-- other as `&mut`, each for a lifetime that the walk makes; `nanosleep` is called; both lifetimes end, and the locals'
+-- memory comes back and is freed. All that the proof knows about `nanosleep` is that it meets its contract, and it uses
+-- only that a number is returned. It makes no assumption of its own.
 use mathlib.Core.Path.{refl}
 use Prim.Native.Nat.{ℕ}
 use mathlib.Core.List.{[], _∷_, List}
@@ -155,7 +156,7 @@ module _ {M : Type 1} (𝓤 : URA M) (H : Heap 𝓤) (A : Atoms 𝓤) (W : Given
         use1 W (later (some (λ (r : ℤ). ((‵ (flft (α ∷ []) fullShare) ⊛ (‵ (flft (β ∷ []) fullShare) ⊛ ‵ ftrue)) ⊛ ‵ (i32 .own r (v ∷ []))) ⊛ raw (ensured 𝓤 H A sleep.ended (sleep.clauses 𝓤 H A at-mem run) (α ∷ [], (β ∷ [], tt)) (x l₁ l₂ α β γ δ, (y l₁ l₂ α β γ δ, tt)) tt r)))) (id⊢ 𝓤 _) $ await ! tt $ pick ! (λ r.
         split ! $ move ! (1 ∷ []) $ drop ! $ split ! $ move ! (1 ∷ []) $ peeks ! i32 (Is i32) (shows 𝓤 H A i32) r (v ∷ []) (λ is.
         land ! (from ! (stop !)) (init ! 8 refl (sint-lawful 𝓤 H A W w32 .typed r _ is .0)) $ drop ! $
-        -- the lifetimes are ended, and the memory of both structs comes back: of _2 at some value
+        -- the lifetimes end, and the memory of both structs comes back: that of _2 at some value
         split ! $ lft-end ! tt $ move ! (0 ∷ 2 ∷ []) $ lent-back ! tt $ use1 W (‵ (froom T′.mir l₁ 0)) (out 𝓤 H A W asked l₁ 0) $
         move ! (1 ∷ []) $ split ! $ lft-end ! tt $ move ! (0 ∷ 3 ∷ []) $ lent-back ! tt $ fpick ! (λ z. fsplit ! $ use1 W (‵ (froom T′.mir l₂ 0)) (out 𝓤 H A W z l₂ 0) $
         -- [room for _2; auth; true; room for _1; _5; …; _4; …; _3; …; … of _2; … of _1; _0; …]

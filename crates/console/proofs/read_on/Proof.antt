@@ -1,4 +1,4 @@
--- `read_on` meets its contract, and ends: the calls that it may make grow fewer.
+-- `read_on` meets its contract, and ends: the number of calls that it may make decreases.
 use lib.ListN.{length}
 use mathlib.Core.Path.{_≡_, refl}
 use borrow.Author.Needs.{needs}

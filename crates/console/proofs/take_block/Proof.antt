@@ -1,4 +1,4 @@
--- `take_block` meets its contract: what is read goes behind the bytes that are kept.
+-- `take_block` meets its contract: what is read goes after the kept bytes.
 use native.Mathlib.Omega.{arith}
 use Prim.Native.Nat.{_-_}
 use lib.ListN.{length}

@@ -1,4 +1,4 @@
--- `write_all` is safe and ends: the calls that it may make grow fewer.
+-- `write_all` is safe and ends: the number of calls that it may make decreases.
 use Prim.Native.Nat.{_≤_}
 use mathlib.Core.Path.{ap, _∙_}
 use native.Mathlib.Omega.{arith}

@@ -1,5 +1,5 @@
--- `take_input` is safe and ends: each cycle continues the cycles before it, has a rack and a buffer of which `cycle` speaks, and leaves fewer
--- reads to be made or fewer bytes to be worked.
+-- `take_input` is safe and ends: each cycle continues the cycles before it, has a rack and a buffer as `cycle`
+-- requires, and leaves fewer reads to be made or fewer bytes to be worked.
 use borrow.Author.Needs.{needs}
 use mathlib.Core.Bool.{true}
 use mathlib.Core.Path.{_≡_, refl, ap, _∙_}
@@ -56,7 +56,7 @@ part-to-requires-2 c κs = search needs
 write-out-requires : tie.Need-write-out-requires Inv-loop μ-loop
 write-out-requires c κs = search needs
 
--- where the loop stands behind the cycle that was just made
+-- where the loop stands after the cycle just made
 cycled :
     (m : lts.After-struct-known2 (no-block-reads.Asked, no-block-reads.Learnt, refill-reads.Asked, refill-reads.Learnt, part-to-reads.Asked, part-to-reads.Learnt, part-from-reads.Asked, part-from-reads.Learnt, cycle-reads.Asked, cycle-reads.Learnt, write-out-reads.Asked, write-out-reads.Learnt, goes-on-reads.Asked, goes-on-reads.Learnt, told-at-end-reads.Asked, told-at-end-reads.Learnt) reads.Pre reads.Post Inv-loop μ-loop)
     → Able (m .before .before .before .before .before .before .before .before .cycle .result .rack)

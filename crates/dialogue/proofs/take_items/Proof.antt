@@ -1,4 +1,5 @@
--- `dialogue::take_items` is safe and ends, since each turn leaves less of the input. Nothing has to hold from turn to turn.
+-- `dialogue::take_items` is safe and ends, since each cycle leaves less of the input. Nothing has to hold from cycle to
+-- cycle.
 use borrow.Author.Needs.{needs}
 use native.Mathlib.Omega.{arith}
 use lib.ListN.{length, length-drop}

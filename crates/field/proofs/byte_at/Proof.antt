@@ -1,4 +1,4 @@
--- `field::byte_at` meets its contract: past the end a list has the default.
+-- `field::byte_at` meets its contract: past its end a list has the default.
 use borrow.Author.Needs.{needs}
 use mathlib.Core.Path.{sym}
 use lib.ListN.{List·getD-eq-default}

@@ -1,4 +1,4 @@
--- `order_all` meets its contract: after i turns the first i slots have taken the order.
+-- `order_all` meets its contract: after i cycles the first i slots have taken the order.
 use borrow.Author.Needs.{needs}
 use native.Mathlib.Omega.{arith}
 use Prim.Native.Nat.{_≤_, _-_}

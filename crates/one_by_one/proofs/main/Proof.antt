@@ -1,4 +1,5 @@
--- `main` is safe and ends, and hands on a rack and buffers of which the contracts below speak.
+-- `main` is safe and ends; the rack and buffers that it passes on satisfy the preconditions of the functions that it
+-- calls.
 use mathlib.Core.Path.{sym}
 use Rattle.rack.proofs.Fitting.{fitted-small}
 use borrow.Author.Needs.{needs}

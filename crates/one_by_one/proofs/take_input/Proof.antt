@@ -1,5 +1,5 @@
--- `take_input` is safe and ends: each call continues the cycles before it, has a rack and a buffer of which `take_field` speaks, and leaves
--- fewer reads to be made or fewer bytes to be worked.
+-- `take_input` is safe and ends: each call continues the cycles before it, has a rack and a buffer as `take_field`
+-- requires, and leaves fewer reads to be made or fewer bytes to be worked.
 use borrow.Author.Needs.{needs}
 use mathlib.Core.Bool.{true}
 use mathlib.Core.Path.{_≡_, refl, ap, _∙_}
@@ -58,7 +58,7 @@ part-to-requires-2 c κs = search needs
 write-out-requires : tie.Need-write-out-requires Inv-loop μ-loop
 write-out-requires c κs = search needs
 
--- where the loop stands behind the call that was just made
+-- where the loop stands after the call just made
 turned :
     (m : lts.After-struct-known2 (no-block-reads.Asked, no-block-reads.Learnt, refill-reads.Asked, refill-reads.Learnt, part-to-reads.Asked, part-to-reads.Learnt, part-from-reads.Asked, part-from-reads.Learnt, take-field-reads.Asked, take-field-reads.Learnt, write-out-reads.Asked, write-out-reads.Learnt, waits-reads.Asked, waits-reads.Learnt, goes-on-reads.Asked, goes-on-reads.Learnt, told-at-end-reads.Asked, told-at-end-reads.Learnt) reads.Pre reads.Post Inv-loop μ-loop)
     → Able (m .before .before .before .before .before .before .before .before .take-field .result .rack)

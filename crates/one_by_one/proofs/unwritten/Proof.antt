@@ -1,4 +1,4 @@
--- `unwritten` meets its contract: each byte that was passed is as it was.
+-- `unwritten` meets its contract: each byte already passed is as it was.
 use Prim.Native.Nat.{ℕ, _≤_, _<_, _-_}
 use mathlib.Core.Path.{_≡_, refl}
 use mathlib.Core.Bool.{false≢true}

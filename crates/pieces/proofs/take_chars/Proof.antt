@@ -1,4 +1,4 @@
--- `take_chars` meets its contract: after i turns the first i bytes are characters, and taken.
+-- `take_chars` meets its contract: after i cycles the first i bytes are characters, and taken.
 use borrow.Author.Needs.{needs}
 use Prim.Native.Nat.{ℕ, _≤_, _-_}
 use mathlib.Core.Path.{_≡_, refl, _∙_}

@@ -1,4 +1,4 @@
--- `refill` meets its contract: bytes that are left are moved to the start, and what is read goes behind them.
+-- `refill` meets its contract: the bytes that are left are moved to the start, and what is read goes after them.
 use mathlib.Core.Path.{_≡_, refl}
 use denote.Ref.{now}
 use lib.ListN.{length}

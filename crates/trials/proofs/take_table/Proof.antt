@@ -1,4 +1,5 @@
--- `trials::take_table` is safe and ends, since the blocks that may come fall to 0. Nothing has to hold from turn to turn.
+-- `trials::take_table` is safe and ends, since the blocks that may come fall to 0. Nothing has to hold from cycle to
+-- cycle.
 use borrow.Author.Needs.{needs}
 use Rattle.trials.proofs.take_table.Statement.{statement}
 use Rattle.trials.proofs.take_table.Tie as tie
