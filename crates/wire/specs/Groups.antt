@@ -1,6 +1,6 @@
 -- Slots taken together: the states in which a group of them ends. In this rack no slot acts on another, so any set of
--- fitted slots is a closed group, even a single slot. If slots acted on each other, a group would have to include every
--- slot that its members act on.
+-- fitted slots is a closed group, even a single slot. If slots acted on each other, a group would have to include, with
+-- each slot, every slot that interacts with it.
 use mathlib.Core.Path.{_≡_}
 use mathlib.Core.Bool.{Bool, true, false}
 use mathlib.Core.List.{List}

@@ -39,7 +39,7 @@ const MODES: [Mode; 5] = [
     Mode { least: 0, time: 0, non_blocking: true },
     Mode { least: 1, time: 0, non_blocking: true },
 ];
-/// A read that does not wait rarely meets the hang-up itself, so this is done this many times.
+/// A read that does not wait rarely meets the hang-up itself, so it is tried this many times.
 const HANG_UPS: usize = 40;
 /// A byte may take some time from the near end of a line to the far end.
 const ON_ITS_WAY: Duration = Duration::from_millis(50);
