@@ -6,7 +6,7 @@ use mathlib.Core.Path.{_≡_, sym, _∙_}
 use lib.ListN.{length}
 use Rattle.base.specs.Lists.{eachTo}
 use Rattle.globals.specs.Globals.{orderedAt}
-use Rattle.globals.proofs.Turns.{passed-over, obeyed}
+use Rattle.globals.proofs.Each.{passed-over, obeyed}
 use Rattle.globals.proofs.order_all.Statement.{statement}
 use Rattle.globals.proofs.order_all.Tie as tie
 

@@ -1,4 +1,4 @@
--- One cycle of the loop over the slots, after correct earlier cycles.
+-- One slot more of the loop over the slots, the earlier ones being right.
 use mathlib.Core.Path.{_≡_, sym, ap, _∙_}
 use mathlib.Core.Bool.{not}
 use mathlib.Core.List.{List}
