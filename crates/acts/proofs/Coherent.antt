@@ -46,7 +46,7 @@ either false y armed f g e = g e
 
 pub fresh-coherent : (m : ℕ) → Coherent (fresh m)
 unfolding fresh
-fresh-coherent m = untripped (omega arith) (λ l. refl)
+fresh-coherent m = untripped (omega arith) refl
 
 abbrev C : (t : Bool) (a b : Supply) → Coherent a → Coherent b → Coherent (pick t a b)
 C = pick-keeps Coherent

@@ -1,6 +1,6 @@
 -- FEVE after an act, bit by bit: the first stage changes it only to clear it, and the later stages leave FLT alone.
 use Prim.Native.Nat.{ℕ, _<_}
-use mathlib.Core.Path.{_≡_, refl, sym, ap, _∙_}
+use mathlib.Core.Path.{_≡_, refl, ap, _∙_}
 use mathlib.Core.Bool.{Bool, true, false, not, _&&_, _||_, true≢false}
 use mathlib.Core.Logic.{⊎-elim}
 use lib.Dec.{eqb}
@@ -29,23 +29,19 @@ use Rattle.events.proofs.Cases.{lines-law, disarm-law}
 use Rattle.codes.specs.Codes.{orderCode}
 use Rattle.orders.specs.Orders.{remote, remoteBy, outDone, fldDone, ordered}
 use Rattle.acts.specs.Acts.{codeOf, clearingQuery, clearingOrder, clearingAct, acted, closed, performed}
-use Rattle.acts.specs.Feve.{clearsFeve, gains, FeveGain}
+use Rattle.acts.specs.Feve.{clearsFeve, gains, FeveGain, Cleared}
 use Rattle.acts.proofs.Clearing.{clearing-acts}
 use Rattle.acts.proofs.Idle.{cleared-flt, unmoved, query-done}
 
 -- FEVE?, CLS and RST end with FEVE 0
 module _ (m : ℕ) (s : Supply) where
-  asked-clear : performed m s (Ask query.Feve) .feve ≡ 0
-  unfolding clearingQuery
-  asked-clear = rw (← query-done m s query.Feve) refl
-
-  closed-clear : (performed m s (Obey Cls) .feve ≡ 0) × (performed m s (Obey Rst) .feve ≡ 0)
-  unfolding performed codeOf orderCode clearingAct clearingOrder
-  closed-clear = (refl, refl)
+  pub cleared-by : Cleared m s
+  unfolding performed codeOf orderCode clearingAct clearingOrder clearingQuery
+  cleared-by = record { asked = rw (← query-done m s query.Feve) refl; cls = refl; rst = refl }
 
   clears : (a : Act) → clearsFeve a ≡ true → performed m s a .feve ≡ 0
   clears a e =
-      ⊎-elim (λ p. rw p asked-clear) (λ q. ⊎-elim (λ p. rw p (closed-clear .0)) (λ p. rw p (closed-clear .1)) q) (clearing-acts a e)
+      ⊎-elim (λ p. rw p (cleared-by .asked)) (λ q. ⊎-elim (λ p. rw p (cleared-by .cls)) (λ p. rw p (cleared-by .rst)) q) (clearing-acts a e)
 
 -- FEVE as supply s has it
 module _ (s : Supply) where

@@ -1,5 +1,5 @@
 -- INVARIANTS OF A SUPPLY'S STATE BESIDES ITS SETTINGS: a known MODE, listed LINES, no FOLD trip without foldback armed.
-use Prim.Native.Nat.{ℕ, _≤_, _<_}
+use Prim.Native.Nat.{ℕ, _≤_}
 use mathlib.Core.Path.{_≡_}
 use mathlib.Core.Bool.{Bool, true}
 use lib.Bits.{bitAnd}
@@ -9,9 +9,9 @@ use Rattle.supply.specs.declared.Order.the-variants.{Set, Ovm, Out, Fld, Ast, R
 use Rattle.supply.specs.declared.Act.{Act}
 use Rattle.supply.specs.declared.Act.the-variants.{Lines, Sample, Press, Turn, Obey, Ask, Nothing}
 
--- if the number is a byte, as it always is in the code, then no bit is set except AC 1, OTP 2, SO 5 and ENA 7
+-- the bits of LINES that are listed are AC 1, OTP 2, SO 5 and ENA 7; none of the others, 0x59, is set
 abbrev pub Listed : ℕ → Type 0
-Listed b = b < 256 → bitAnd b 0xA6 ≡ b
+Listed b = bitAnd b 0x59 ≡ 0
 
 -- the parts of a supply's state that must agree
 pub record Agreeing (mode lines : ℕ) (fold armed : Bool) : Type 0 where

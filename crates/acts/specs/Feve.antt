@@ -26,6 +26,12 @@ clearsFeve Nothing = false
 abbrev pub ClearingActs : Type 0
 ClearingActs = (a : Act) → clearsFeve a ≡ true → (a ≡ Ask query.Feve) ⊎ ((a ≡ Obey Cls) ⊎ (a ≡ Obey Rst))
 
+-- and each of the three leaves FEVE 0, whatever rose
+pub record Cleared (m : ℕ) (s : Supply) : Type 0 where
+  pub asked : performed m s (Ask query.Feve) .feve ≡ 0
+  pub cls : performed m s (Obey Cls) .feve ≡ 0
+  pub rst : performed m s (Obey Rst) .feve ≡ 0
+
 -- fault bit k was 0 before the act and is 1 after it, and FENA enabled it before the act
 abbrev pub gains : ℕ → Supply → Act → ℕ → Bool
 gains m s a k = (bitAt k (fltOf (performed m s a)) && not (bitAt k (fltOf s))) && bitAt k (s .fena)

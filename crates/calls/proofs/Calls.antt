@@ -47,6 +47,6 @@ module _ (r : Rack) (bytes b : List ℕ) where
     unfolding callOf parse
     long-buffer h f g = rw (le-ltb (length b) 512 h) (byParsed (readField (fitted (r .setup)) bytes) refl)
       where
-        byParsed : (p : Parsed) → readField (fitted (r .setup)) bytes ≡ p → Answered r b (wire.answerOf plainSupply (viewOf r) p) answer b′
+        byParsed : (p : Parsed) → readField (fitted (r .setup)) bytes ≡ p → Answered r b (wire.resultOf plainSupply (viewOf r) p) answer b′
         byParsed (refuse n) e = (ap (λ (x : Worked). record { code = x .code; rack = x .rack; used = x .used; length = x .next }) (f n e .0), f n e .1)
-        byParsed (accept n is) e = λ small. taken _ n _ (ap (wire.answerOf plainSupply (viewOf r)) e) (g small (omega arith))
+        byParsed (accept n is) e = λ small. taken _ n _ (ap (wire.resultOf plainSupply (viewOf r)) e) (g small (omega arith))

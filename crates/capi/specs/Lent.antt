@@ -4,5 +4,5 @@ use Rattle.calls.specs.declared.Answer.{Answer}
 use Rattle.capi.specs.declared.Done.{Done}
 
 -- the answer of `call`: what was returned, together with the rack as the call left it
-abbrev pub answerOf : Done → Rack → Answer
-answerOf d r = record { code = d .code; rack = r; used = d .used; length = d .length }
+abbrev pub answerWith : Done → Rack → Answer
+answerWith d r = record { code = d .code; rack = r; used = d .used; length = d .length }

@@ -3,7 +3,7 @@
 // memory.
 ghost use Rattle.rack.specs.Fit.{FitDoes};
 ghost use Rattle.calls.specs.Calls.{CallDoes};
-ghost use Rattle.capi.specs.Lent.{answerOf};
+ghost use Rattle.capi.specs.Lent.{answerWith};
 use rack::Fitted;
 use slots::Rack;
 
@@ -30,7 +30,7 @@ pub extern "C" fn pu_fit(list: &[u8]) -> Fitted
 #[no_mangle]
 pub extern "C" fn pu_call(rack: &mut Rack, bytes: &[u8], reply: &mut [u8]) -> Done
     ensures { λ d. ⌜ CallDoes (now (rack .entry)) (now (bytes .entry)) (now (reply .entry))
-        (answerOf d (now (rack .exit))) (now (reply .exit)) ⌝ }
+        (answerWith d (now (rack .exit))) (now (reply .exit)) ⌝ }
 {
     let a = calls::call(*rack, bytes, reply);
     *rack = a.rack;

@@ -40,7 +40,7 @@ pub onward-new : (n : ℕ) (stop : ℕ → Bool) (s : List ℕ) (v : wire.Rack S
 unfolding callOf parse
 onward-new n stop s v used said = ap (afterField (fieldsFrom n stop s) stop v used said) (byParsed (readField (fitted (v .setup)) (drop used s)))
   where
-    byParsed : (p : Parsed) → wire.answerOf plainSupply v p ≡ answerSince (v .slots) v p
+    byParsed : (p : Parsed) → wire.resultOf plainSupply v p ≡ answerSince (v .slots) v p
     byParsed (refuse k) = refl
     byParsed (accept k is) = refl
 

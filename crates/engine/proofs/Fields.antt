@@ -39,8 +39,8 @@ isDone (refused n) = false
 isDone (done q n t) = true
 
 -- an accepted call uses bytes, and no more than there are
-by-parsed : (v : wire.Rack Supply) (s : List ℕ) (p : Parsed) → p ≡ readField (fitted (v .setup)) s → isDone (wire.answerOf plainSupply v p) ≡ true
-    → (0 < usedBy (wire.answerOf plainSupply v p)) × (usedBy (wire.answerOf plainSupply v p) ≤ length s)
+by-parsed : (v : wire.Rack Supply) (s : List ℕ) (p : Parsed) → p ≡ readField (fitted (v .setup)) s → isDone (wire.resultOf plainSupply v p) ≡ true
+    → (0 < usedBy (wire.resultOf plainSupply v p)) × (usedBy (wire.resultOf plainSupply v p) ≤ length s)
 by-parsed v s (refuse n) e d = absurd (false≢true d)
 by-parsed v s (accept n is) e d = let k = read-accepted (fitted (v .setup)) s n is (sym e) in (omega (arith, k .0), k .1)
 
@@ -58,7 +58,7 @@ module _ (v : wire.Rack Supply) (s x : List ℕ) where
 
   stands : (readField fits s ≡ refuse 2 → ⊥) → (readField fits s ≡ refuse 5 → ⊥) → callOf plainSupply v (fieldAt (s ++ x)) ≡ callOf plainSupply v (fieldAt s)
   unfolding callOf parse
-  stands two five = ap (wire.answerOf plainSupply v) (byLength (ltb (length s) 3) refl)
+  stands two five = ap (wire.resultOf plainSupply v) (byLength (ltb (length s) 3) refl)
     where
       byLength : (t : Bool) → ltb (length s) 3 ≡ t → readField fits (s ++ x) ≡ readField fits s
       byLength true e = absurd (two (read-code fits s 2 (sym (too-short s (ltb-true (length s) 3 e))) (omega arith)))
@@ -69,14 +69,14 @@ module _ (v : wire.Rack Supply) (s x : List ℕ) where
   accepted-longer q n t e = stands (no 2) (no 5) ∙ e
     where
       no : (k : ℕ) → readField fits s ≡ refuse k → ⊥
-      no k r = absurd (true≢false (sym (ap isDone e) ∙ ap (λ (p : Parsed). isDone (wire.answerOf plainSupply v p)) r))
+      no k r = absurd (true≢false (sym (ap isDone e) ∙ ap (λ (p : Parsed). isDone (wire.resultOf plainSupply v p)) r))
 
   pub refused-longer : (n : ℕ) → callOf plainSupply v (fieldAt s) ≡ refused n → (n ≡ 2 → ⊥) → (n ≡ 5 → ⊥) → callOf plainSupply v (fieldAt (s ++ x)) ≡ refused n
   unfolding callOf parse
   refused-longer n e two five = stands (λ r. two (code 2 r)) (λ r. five (code 5 r)) ∙ e
     where
       code : (k : ℕ) → readField fits s ≡ refuse k → n ≡ k
-      code k r = ap codeBy (sym e) ∙ ap (λ (p : Parsed). codeBy (wire.answerOf plainSupply v p)) r
+      code k r = ap codeBy (sym e) ∙ ap (λ (p : Parsed). codeBy (wire.resultOf plainSupply v p)) r
 
 -- no byte is no field
 pub no-bytes : (v : wire.Rack Supply) → callOf plainSupply v (fieldAt []) ≡ refused 2
@@ -88,9 +88,9 @@ module _ (v : wire.Rack Supply) (s : List ℕ) (n : ℕ) (e : callOf plainSupply
   abbrev fit : ℕ → Bool
   fit = fitted (v .setup)
 
-  answer : (p : Parsed) → readField fit s ≡ p → wire.answerOf plainSupply v p ≡ refused n
+  answer : (p : Parsed) → readField fit s ≡ p → wire.resultOf plainSupply v p ≡ refused n
   unfolding callOf parse
-  answer p d = ap (wire.answerOf plainSupply v) (sym d) ∙ e
+  answer p d = ap (wire.resultOf plainSupply v) (sym d) ∙ e
 
   module _ (good : headerCode s ≡ 0) where
     by-value : (tagOf s ≡ 1 → ⊥) → (t f : Bool) → fit (getD (payloadOf s) 0 0) ≡ t → valuesFit (tagOf s) (payloadOf s) ≡ f → ⊥

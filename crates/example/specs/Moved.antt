@@ -11,12 +11,9 @@ use Rattle.supply.specs.declared.Supply.{Supply}
 use Rattle.plain.specs.Plain.{grammar}
 use Rattle.slots.specs.declared.Rack.{Rack}
 use Rattle.rack.specs.Demand3.{Run, setupOf, supplyAt}
-use Rattle.example.specs.Worked.{fittingList, serial, sample}
+use Rattle.example.specs.Worked.{fittingList, serial, sample, key}
 
--- a field of tag 2, and one of tag 3 with a step below 65,536
-abbrev pub key : ℕ → ℕ → Call
-key a k = record { bytes = 2 ∷ 0 ∷ 2 ∷ a ∷ k ∷ []; room = 512 }
-
+-- a field of tag 3 with a step below 65,536
 abbrev pub knob : ℕ → ℕ → ℕ → Call
 knob a t d = record { bytes = 3 ∷ 0 ∷ 6 ∷ a ∷ t ∷ 0 ∷ 0 ∷ d / 256 ∷ d % 256 ∷ []; room = 512 }
 

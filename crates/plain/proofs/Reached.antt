@@ -4,14 +4,11 @@ use mathlib.Core.Path.{_≡_, refl}
 use mathlib.Core.List.{List, [], _∷_, map}
 use mathlib.Core.Bool.{Bool, true, false, not}
 use lib.Bits.{bitAnd}
-use lib.Dec.{eqb, eqb→eq}
+use lib.Dec.{eqb}
 use lib.ListN.{getD}
-use borrow.Author.Tests.{eqb-true, eq-eqb}
+use borrow.Author.Tests.{eqb-true}
 use Rattle.base.specs.Choice.{pick}
-use Rattle.base.specs.Lists.{tabulate}
 use Rattle.base.proofs.Choice.{pick-keeps}
-use Rattle.base.proofs.Lists.{getD-tabulate}
-use Rattle.base.proofs.Table.{Check, everywhere}
 use Rattle.wire.specs.Machine.{Every}
 use Rattle.wire.specs.Wire.{Entry, field, line, byte, event, Parsed, refuse, accept, Call}
 use Rattle.wire.specs.declared.Setup.{Setup}
@@ -32,7 +29,7 @@ use Rattle.asks.specs.declared.Asks.the-variants.{Select, BadSelect, Everyone, 
 use Rattle.asks.specs.Words.{OrderWord, set, ovm, out, fld, ast, rmt, fena, cls, rst, Command, toOne, ofOne, toAll, selecting, unknownWord, kindOf, kindOfOrder, orderWith, asksWith, failsWith, askedBy}
 use Rattle.command.specs.Lines.{heardOf}
 use Rattle.protocol.specs.Sent.{obeyed}
-use Rattle.field.specs.Fields.{pairAt, tagOf, lengthOf, payloadOf, headerCode, valuesFit, actOf, readField, pressOf, turnOf, quadAt}
+use Rattle.field.specs.Fields.{pairAt, tagOf, lengthOf, payloadOf, headerCode, valuesFit, actOf, readField, pressOf, turnOf}
 use Rattle.plain.specs.Plain.{stepOf, grammar, plainSupply}
 use Rattle.plain.specs.Reached.{CheckedAsks, Passed, SharesCoherent}
 use Rattle.plain.proofs.Heard.{heard-has}
@@ -73,21 +70,9 @@ word-checked k x =
 lines-checked : (kept : List ℕ) (spoiled : Bool) → CheckedAsks (heardOf kept spoiled .asks)
 lines-checked = heard-has CheckedAsks tt (λ c. tt) word-checked
 
--- a byte with none of the bits 0, 3, 4 and 6 has all its bits among the others: a test of all 256
-abbrev apart : ℕ → Check
-apart b =
-    record {
-      fact = bitAnd b 0x59 ≡ 0 → bitAnd b 0xA6 ≡ b;
-      test = pick (eqb (bitAnd b 0x59) 0) (eqb (bitAnd b 0xA6) b) true;
-      sound = λ t e. eqb→eq (bitAnd b 0xA6) b (rw (eq-eqb (bitAnd b 0x59) 0 e) at t);
-    }
-
-bits-listed : (b : ℕ) → bitAnd b 0x59 ≡ 0 → Listed b
-bits-listed b e h = rw (getD-tabulate 256 (λ i. i) b 0 h) at (everywhere apart (tabulate 256 (λ i. i)) 0 tt tt b) e
-
 lines-value : (t : ℕ) (p : List ℕ) → eqb t 4 ≡ true → valuesFit t p ≡ true → Listed (getD p 1 0)
 unfolding valuesFit
-lines-value t p f e = bits-listed (getD p 1 0) (eqb-true (bitAnd (getD p 1 0) 0x59) 0 (rw (eqb-true t 4 f) at e))
+lines-value t p f e = eqb-true (bitAnd (getD p 1 0) 0x59) 0 (rw (eqb-true t 4 f) at e)
 
 -- keys and knob steps need no check
 press-checked : (n : ℕ) → Checked (pressOf n)
@@ -102,8 +87,8 @@ turn-checked n step =
 fields-checked : (t : ℕ) (p : List ℕ) → valuesFit t p ≡ true → Checked (actOf t p)
 unfolding actOf
 fields-checked t p e =
-    pick-keeps Checked (eqb t 2) _ _ (press-checked (getD p 1 0))
-    (pick-keeps Checked (eqb t 3) _ _ (turn-checked (getD p 1 0) (quadAt p 2)) (byLines (eqb t 4) refl))
+    pick-keeps Checked (eqb t 2) _ _ (press-checked _)
+    (pick-keeps Checked (eqb t 3) _ _ (turn-checked _ _) (byLines (eqb t 4) refl))
   where
     byLines : (four : Bool) → eqb t 4 ≡ four
         → Checked (pick four (Lines (getD p 1 0)) (pick (eqb t 5) (Sample (pairAt p 1) (pairAt p 3)) Nothing))

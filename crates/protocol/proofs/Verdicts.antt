@@ -1,20 +1,23 @@
 -- A line is what the first stage that applies says, so a line that deserves two verdicts gets the earlier one.
-use mathlib.Core.Path.{_≡_, refl, ap}
+use mathlib.Core.Path.{_≡_, refl, ap, _∙_}
 use mathlib.Core.List.{List, [], _∷_, _++_}
-use mathlib.Core.Bool.{Bool, true, false, not, _&&_}
+use mathlib.Core.Bool.{Bool, true, false, not, _&&_, true≢false, false≢true}
 use Prim.Native.Nat.{ℕ}
 use lib.Dec.{ltb}
 use Rattle.base.specs.Choice.{pick}
+use Rattle.supply.specs.declared.Supply.{Supply}
 use Rattle.supply.specs.declared.Act.the-variants.{Nothing}
 use Rattle.supply.specs.State.{c05}
 use Rattle.asks.specs.declared.Asks.{Asks}
-use Rattle.asks.specs.declared.Asks.the-variants.{One, Error}
+use Rattle.asks.specs.declared.Asks.the-variants.{Select, BadSelect, Everyone, Nobody, One, Error}
 use Rattle.parameters.specs.Parameters.{Kind, bare, number, switch, hex, address, unknown, c01, c02, c03, c04, readAs, isEmpty, valueIs, refusedBy, within30, parameterOf}
 use Rattle.words.specs.Words.{upperAll}
 use Rattle.asks.specs.Words.{Command, kindOf, asksWith, failsWith, commandOf, askedWith, askedBy}
 use Rattle.asks.specs.Asked.{wordOf, parameterText, asksOf}
 use Rattle.command.specs.Lines.{hasChecksum, rightChecksum, beforeChecksum, heardAs, heardOf}
-use Rattle.protocol.specs.Verdicts.{Stage, firstOf, commandIn, kindIn, givenIn, isUnknown, isAbsent, isMalformed, isBeyond, drawsChecksum, valueOf, stages}
+use Rattle.protocol.specs.Verdicts.{Stage, firstOf, commandIn, kindIn, givenIn, isUnknown, isAbsent, isMalformed, isBeyond, drawsChecksum, valueOf, stages, textOf, isSilent, Replied}
+use Rattle.protocol.specs.Sent.{repliedTo}
+use Rattle.texts.specs.Texts.{replyOf}
 
 module _ (k : Command) where
   -- a required parameter: absent, malformed, or read
@@ -79,6 +82,35 @@ checksummed-when t false = byChecksum (hasChecksum t) (rightChecksum t)
     byChecksum true true = refl
     byChecksum true false = refl
     byChecksum false r = refl
+
+module _ (m : ℕ) (s : Supply) where
+  silent-reply : (a : Asks) (c : Bool) → isSilent a ≡ true → repliedTo m s a c ≡ []
+  unfolding repliedTo
+  silent-reply (Everyone o) c e = refl
+  silent-reply Nobody c e = refl
+  silent-reply (One a) c e = absurd (false≢true e)
+  silent-reply (Error k) c e = absurd (false≢true e)
+  silent-reply (Select n) c e = absurd (false≢true e)
+  silent-reply (BadSelect k) c e = absurd (false≢true e)
+
+  text-reply : (a : Asks) (c : Bool) → isSilent a ≡ false → repliedTo m s a c ≡ replyOf c (textOf m s a)
+  unfolding repliedTo
+  text-reply (One a) c e = refl
+  text-reply (Error k) c e = refl
+  text-reply (Select n) c e = refl
+  text-reply (BadSelect k) c e = refl
+  text-reply (Everyone o) c e = absurd (true≢false e)
+  text-reply Nobody c e = absurd (true≢false e)
+
+  -- THE REPLY TO A LINE, errors included
+  pub replied : (t : List ℕ) (spoiled : Bool) → Replied m s t spoiled
+  replied t spoiled =
+      record {
+        silent = silent-reply (heardOf t spoiled .asks) (heardOf t spoiled .checksummed);
+        carries = λ e.
+            text-reply (heardOf t spoiled .asks) (heardOf t spoiled .checksummed) e
+            ∙ ap (λ (c : Bool). replyOf c (textOf m s (heardOf t spoiled .asks))) (checksummed-when t spoiled);
+      }
 
 -- the first stage that applies decides, whatever comes after it
 abbrev pub NoneApplies : List Stage → Type 0

@@ -1,18 +1,23 @@
 -- The verdicts on a line as a list of stages: the first stage that applies decides.
 use Prim.Native.Nat.{ℕ}
+use mathlib.Core.Path.{_≡_}
 use mathlib.Core.List.{List, [], _∷_}
 use mathlib.Core.Bool.{Bool, true, false, not, _&&_}
 use lib.Dec.{ltb}
 use Rattle.base.specs.Choice.{pick}
 use Rattle.words.specs.Words.{upperAll}
+use Rattle.supply.specs.declared.Supply.{Supply}
 use Rattle.supply.specs.declared.Act.the-variants.{Nothing}
 use Rattle.supply.specs.State.{c05}
 use Rattle.asks.specs.declared.Asks.{Asks}
-use Rattle.asks.specs.declared.Asks.the-variants.{One, Error}
+use Rattle.asks.specs.declared.Asks.the-variants.{Select, BadSelect, Everyone, Nobody, One, Error}
 use Rattle.parameters.specs.Parameters.{Kind, bare, number, switch, hex, address, unknown, c01, c02, c03, c04, readAs, isEmpty}
 use Rattle.asks.specs.Words.{Command, kindOf, failsWith, commandOf}
 use Rattle.asks.specs.Asked.{wordOf, parameterText}
-use Rattle.command.specs.Lines.{hasChecksum, rightChecksum, beforeChecksum}
+use Rattle.command.specs.Lines.{hasChecksum, rightChecksum, beforeChecksum, heardOf}
+use Rattle.texts.specs.Texts.{codeText, replyOf}
+use Rattle.reply.specs.Obeying.{saidOf}
+use Rattle.protocol.specs.Sent.{repliedTo}
 
 -- a stage: whether it applies, and what the line asks if it does
 abbrev pub Stage : Type 0
@@ -98,3 +103,29 @@ stages t spoiled =
     (isMalformed (kindIn t) (givenIn t), failsWith (commandIn t) c03) ∷
     (isBeyond (kindIn t) (givenIn t), failsWith (commandIn t) c05) ∷
     []
+
+-- the text of the reply to a line, without checksum and CR
+abbrev pub textOf : ℕ → Supply → Asks → List ℕ
+textOf m s (One a) = saidOf m s a
+textOf m s (Error c) = codeText c
+textOf m s (Select n) = codeText 0
+textOf m s (BadSelect c) = codeText c
+textOf m s (Everyone o) = []
+textOf m s Nobody = []
+
+-- a global line draws no reply, in error or not
+abbrev pub isSilent : Asks → Bool
+isSilent (Everyone o) = true
+isSilent Nobody = true
+isSilent (One a) = false
+isSilent (Error c) = false
+isSilent (Select n) = false
+isSilent (BadSelect c) = false
+
+-- THE REPLY TO A LINE, errors included: its text, with a checksum exactly if the line has a right one and is not spoiled
+pub record Replied (m : ℕ) (s : Supply) (t : List ℕ) (spoiled : Bool) : Type 0 where
+  pub silent : isSilent (heardOf t spoiled .asks) ≡ true
+      → repliedTo m s (heardOf t spoiled .asks) (heardOf t spoiled .checksummed) ≡ []
+  pub carries : isSilent (heardOf t spoiled .asks) ≡ false
+      → repliedTo m s (heardOf t spoiled .asks) (heardOf t spoiled .checksummed)
+      ≡ replyOf (drawsChecksum t spoiled) (textOf m s (heardOf t spoiled .asks))

@@ -30,7 +30,7 @@ pub waiting-short : (v : wire.Rack Supply) (s : List ℕ) (n : ℕ) → callOf p
 unfolding callOf parse
 waiting-short v s n e w = lacking-short (fitted (v .setup)) s (byCode w)
   where
-    code : (p : Parsed) → wire.answerOf plainSupply v p ≡ refused n → codeIn p ≡ n
+    code : (p : Parsed) → wire.resultOf plainSupply v p ≡ refused n → codeIn p ≡ n
     code (refuse k) d = ap codeBy d
     code (accept k is) d = absurd (true≢false (ap isDone d))
 

@@ -9,7 +9,7 @@ use lib.ListN.{length, getD}
 use Rattle.base.proofs.Lists.{length-tabulate}
 use Rattle.wire.specs.Wire.{Delivery, fitted, Sent, followed, Call, Item, Parsed, refuse, accept, parse, scan}
 use Rattle.wire.specs.Share.{items, stream}
-use Rattle.wire.specs.Rack.{Plain, Rack, next, stateAt, deliver, moved, answerOf, callOf, after, runFrom}
+use Rattle.wire.specs.Rack.{Plain, Rack, next, stateAt, deliver, moved, resultOf, callOf, after, runFrom}
 use Rattle.wire.specs.declared.Setup.{Setup}
 use Rattle.wire.proofs.Stream.{scan-append}
 
@@ -26,7 +26,7 @@ module _ (M : Plain) where
   open Plain M using (State, step, reply, fresh, grammar)
 
   -- a refused call leaves the rack as it was, an accepted one moves it by its items
-  after-moved : (r : Rack State) (p : Parsed) → after M r (answerOf M r p) ≡ moved M r (scan grammar (r .setup) (r .wire) (items p))
+  after-moved : (r : Rack State) (p : Parsed) → after M r (resultOf M r p) ≡ moved M r (scan grammar (r .setup) (r .wire) (items p))
   after-moved r (refuse n) = refl
   after-moved r (accept used is) = refl
 

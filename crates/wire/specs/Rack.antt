@@ -45,14 +45,14 @@ module _ (M : Plain) where
   deliver u ss d = tabulate (length ss) (next u (stateAt ss) d)
 
   -- the reply to a delivery; a global draws none
-  abbrev pub replyTo : Setup → List State → Delivery → List ℕ
-  replyTo u ss (one a e) = reply (modelAt u a) (stateAt ss a) e
-  replyTo u ss (all e) = []
-  replyTo u ss (say t) = t
+  abbrev pub drawnFrom : Setup → List State → Delivery → List ℕ
+  drawnFrom u ss (one a e) = reply (modelAt u a) (stateAt ss a) e
+  drawnFrom u ss (all e) = []
+  drawnFrom u ss (say t) = t
 
   abbrev pub replies : Setup → List State → List Delivery → List ℕ
   replies u ss [] = []
-  replies u ss (d ∷ ds) = replyTo u ss d ++ replies u (deliver u ss d) ds
+  replies u ss (d ∷ ds) = drawnFrom u ss d ++ replies u (deliver u ss d) ds
 
   -- the rack after the deliveries that the line has handed out
   abbrev pub moved : Rack State → Sent → Rack State
@@ -65,13 +65,13 @@ module _ (M : Plain) where
   abbrev pub answered : Rack State → ℕ → Sent → CallResult State
   answered r used s = done (moved r s) used (drawnSince (r .slots) r s)
 
-  abbrev pub answerOf : Rack State → Parsed → CallResult State
-  answerOf r (refuse n) = refused n
-  answerOf r (accept used is) = answered r used (scan grammar (r .setup) (r .wire) is)
+  abbrev pub resultOf : Rack State → Parsed → CallResult State
+  resultOf r (refuse n) = refused n
+  resultOf r (accept used is) = answered r used (scan grammar (r .setup) (r .wire) is)
 
   -- ONE CALL
   unfoldable pub callOf : Rack State → Call → CallResult State
-  callOf r c = answerOf r (parse grammar (r .setup) c)
+  callOf r c = resultOf r (parse grammar (r .setup) c)
 
   -- the rack after a call: the one it returned or, if it was refused, the one before
   abbrev pub after : Rack State → CallResult State → Rack State

@@ -84,8 +84,8 @@ abbrev pub quiet : Wire → Sent
 quiet w = record { wire = w; sent = [] }
 
 -- a line has ended: no characters are kept, this address is selected, and these deliveries are handed out
-abbrev pub ending : ℕ → List Delivery → Sent
-ending sel ds = record { wire = record { kept = []; spoiled = false; sel = sel }; sent = ds }
+abbrev pub lineEnded : ℕ → List Delivery → Sent
+lineEnded sel ds = record { wire = record { kept = []; spoiled = false; sel = sel }; sent = ds }
 
 -- one after the other
 abbrev pub followed : Sent → Sent → Sent
@@ -95,10 +95,10 @@ followed s t = record { wire = t .wire; sent = s .sent ++ t .sent }
 -- reply. A line that no supply takes draws its reply if a slot is selected. A global goes to every fitted slot. Any
 -- other line goes to the selected slot, or is lost if there is none.
 abbrev pub byClass : Setup → Wire → Class → Sent
-byClass u w (select a t) = ending (pick (fitted u a) a nobody) (given (fitted u a) (say t))
-byClass u w (faulty t) = ending (w .sel) (given (fitted u (w .sel)) (say t))
-byClass u w global = ending (w .sel) (all (line (w .kept) (w .spoiled)) ∷ [])
-byClass u w other = ending (w .sel) (given (fitted u (w .sel)) (one (w .sel) (line (w .kept) (w .spoiled))))
+byClass u w (select a t) = lineEnded (pick (fitted u a) a nobody) (given (fitted u a) (say t))
+byClass u w (faulty t) = lineEnded (w .sel) (given (fitted u (w .sel)) (say t))
+byClass u w global = lineEnded (w .sel) (all (line (w .kept) (w .spoiled)) ∷ [])
+byClass u w other = lineEnded (w .sel) (given (fitted u (w .sel)) (one (w .sel) (line (w .kept) (w .spoiled))))
 
 -- a serial byte other than CR: LF (10) does nothing, a backspace (8) removes the last kept character, and once 64
 -- characters are kept a further byte is lost and spoils the line
