@@ -27,7 +27,7 @@ abbrev pub ClearingActs : Type 0
 ClearingActs = (a : Act) → clearsFeve a ≡ true → (a ≡ Ask query.Feve) ⊎ ((a ≡ Obey Cls) ⊎ (a ≡ Obey Rst))
 
 -- and each of the three leaves FEVE 0, whatever rose
-pub record Cleared (m : ℕ) (s : Supply) : Type 0 where
+pub record FeveCleared (m : ℕ) (s : Supply) : Type 0 where
   pub asked : performed m s (Ask query.Feve) .feve ≡ 0
   pub cls : performed m s (Obey Cls) .feve ≡ 0
   pub rst : performed m s (Obey Rst) .feve ≡ 0

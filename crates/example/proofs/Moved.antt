@@ -34,7 +34,7 @@ use Rattle.fitting.specs.Fitting.{allAllowed}
 use Rattle.rack.proofs.Isolation.{isolated-code}
 use Rattle.rack.proofs.Existence.{some-run}
 use Rattle.example.specs.Worked.{fittingList}
-use Rattle.example.specs.Moved.{here, listThere, there, foldedBack, Moved}
+use Rattle.example.specs.Moved.{here, listThere, there, foldedBack, MovedRun}
 
 -- the share, at any address
 shareAt : ℕ → List Entry
@@ -68,7 +68,7 @@ addresses-differ : shareAt 6 ≡ shareAt 9 → ⊥
 unfolding shareAt
 addresses-differ e = omega (arith, ap firstAddress e)
 
-pub moved : Moved
+pub moved : MovedRun
 unfolding fittingList listThere allAllowed
 moved =
     record {

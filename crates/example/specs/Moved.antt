@@ -54,7 +54,7 @@ foldedBack =
       «amp_count» = 5000;
     }
 
-pub record Moved : Type 0 where
+pub record MovedRun : Type 0 where
   -- the shares differ as lists of entries, since each field contains its own address
   pub shares-differ : shareOf grammar (setupOf fittingList) here 6 ≡ shareOf grammar (setupOf listThere) there 9 → ⊥
   -- there are such runs; they end alike, in this state

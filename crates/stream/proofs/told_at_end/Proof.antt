@@ -1,6 +1,5 @@
 -- `told_at_end` meets its contract.
 use Rattle.stream.proofs.Blocks.{told-code, told-none}
-use borrow.Author.Needs.{needs}
 use Rattle.stream.proofs.told_at_end.Statement.{statement}
 use Rattle.stream.proofs.told_at_end.Tie as tie
 use Rattle.stream.proofs.told_at_end.Reads as reads
