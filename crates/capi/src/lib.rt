@@ -1,10 +1,10 @@
 // Layer outside.
 // `fit` and `call` for programs in C or Rust: the exported functions, and nothing else. The rack stays in its owner's
 // memory.
-ghost use Rattle.rack.specs.Fit.{FitDoes};
+ghost use Rattle.fitting.specs.Fit.{FitDoes};
 ghost use Rattle.calls.specs.Calls.{CallDoes};
 ghost use Rattle.capi.specs.Lent.{answerWith};
-use rack::Fitted;
+use fitting::Fitted;
 use slots::Rack;
 
 // What a call returns besides the rack: code 0, the bytes used and the length of the reply; or the number of a refusal,
@@ -21,12 +21,12 @@ pub struct Done {
 pub extern "C" fn pu_fit(list: &[u8]) -> Fitted
     ensures { λ f. ⌜ FitDoes (now (list .entry)) f ⌝ }
 {
-    rack::fit(list)
+    fitting::fit(list)
 }
 
 // One call: works the first field of the lent bytes on the lent rack. The contract is that of `call`, so a list of
-// these calls on a rack from `pu_fit` is a `Run` of rack/specs/Demand3.antt, and what is stated there about racks holds
-// for the lent one.
+// these calls on a rack from `pu_fit` is a `Run` of isolation/specs/Demand3.antt, and what is stated there about racks
+// holds for the lent one.
 #[no_mangle]
 pub extern "C" fn pu_call(rack: &mut Rack, bytes: &[u8], reply: &mut [u8]) -> Done
     ensures { λ d. ⌜ CallDoes (now (rack .entry)) (now (bytes .entry)) (now (reply .entry))

@@ -74,7 +74,7 @@ fn main() {
     if got.failed {
         return;
     }
-    let fitted = rack::fit(base::part_to(&list, got.count));
+    let fitted = fitting::fit(base::part_to(&list, got.count));
     let mut code = fitted.code;
     if code == 0 {
         let mut room = console::buffer();

@@ -29,10 +29,10 @@ use Rattle.wire.specs.Share.{brought, shareOf}
 use Rattle.wire.specs.Rack.{plain}
 use Rattle.plain.specs.Plain.{plainSupply, grammar, stepOf, classOf}
 use Rattle.plain.specs.Unaddressed.{unaddressed}
-use Rattle.rack.specs.Demand3.{setupOf}
+use Rattle.isolation.specs.Demand3.{setupOf}
 use Rattle.fitting.specs.Fitting.{allAllowed}
-use Rattle.rack.proofs.Isolation.{isolated-code}
-use Rattle.rack.proofs.Existence.{some-run}
+use Rattle.isolation.proofs.Isolation.{isolated-code}
+use Rattle.isolation.proofs.Existence.{some-run}
 use Rattle.example.specs.Worked.{fittingList}
 use Rattle.example.specs.Moved.{here, listThere, there, foldedBack, MovedRun}
 

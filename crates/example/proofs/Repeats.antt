@@ -17,8 +17,8 @@ use Rattle.answers.specs.Answers.{answerOf}
 use Rattle.plain.specs.Plain.{grammar, replyTo}
 use Rattle.plain.specs.Unaddressed.{unaddressed}
 use Rattle.slots.specs.declared.Rack.{Rack}
-use Rattle.rack.specs.Demand3.{supplyAt}
-use Rattle.rack.proofs.Isolation.{isolated-code}
+use Rattle.isolation.specs.Demand3.{supplyAt}
+use Rattle.isolation.proofs.Isolation.{isolated-code}
 use Rattle.example.specs.Repeats.{SameSupply, SharesRepeat, UnaddressedSharesRepeat, elsewhere, concerns, NeighboursMakeNoDifference}
 
 same : (m : ℕ) (r : Rack) (a : ℕ) (r₂ : Rack) (b : ℕ) → supplyAt r a ≡ supplyAt r₂ b → SameSupply m r a r₂ b

@@ -33,10 +33,10 @@ use Rattle.wire.specs.Share as share
 use Rattle.wire.specs.Share.{brought, shareOf}
 use Rattle.wire.specs.Rack.{callOf, freshRack, plain}
 use Rattle.plain.specs.Plain.{plainSupply, grammar, trips, stepOf, replyTo, classOf, releasesOf}
-use Rattle.rack.specs.Demand3.{setupOf, supplyAt}
+use Rattle.isolation.specs.Demand3.{setupOf, supplyAt}
 use Rattle.fitting.specs.Fitting.{allAllowed}
-use Rattle.rack.proofs.Isolation.{isolated-code}
-use Rattle.rack.proofs.Existence.{some-run}
+use Rattle.isolation.proofs.Isolation.{isolated-code}
+use Rattle.isolation.proofs.Existence.{some-run}
 use Rattle.example.specs.Worked.{fittingList, tripping, tripped, released, calls, listAlone, alone, answers, expected, typed, shareTripping, shareTripped, shareReleased, shareNeighbour, endState, WorkedOut}
 
 -- the unfoldings: lists and fields; lines; the supply and its replies

@@ -10,7 +10,7 @@ use Rattle.wire.specs.Share.{shareOf}
 use Rattle.supply.specs.declared.Supply.{Supply}
 use Rattle.plain.specs.Plain.{grammar}
 use Rattle.slots.specs.declared.Rack.{Rack}
-use Rattle.rack.specs.Demand3.{Run, setupOf, supplyAt}
+use Rattle.isolation.specs.Demand3.{Run, setupOf, supplyAt}
 use Rattle.example.specs.Worked.{fittingList, serial, sample, key}
 
 -- a field of tag 3 with a step below 65,536

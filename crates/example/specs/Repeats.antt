@@ -14,7 +14,7 @@ use Rattle.answers.specs.Answers.{answerOf}
 use Rattle.plain.specs.Plain.{grammar, replyTo}
 use Rattle.plain.specs.Unaddressed.{unaddressed}
 use Rattle.slots.specs.declared.Rack.{Rack}
-use Rattle.rack.specs.Demand3.{Run, supplyAt}
+use Rattle.isolation.specs.Demand3.{Run, supplyAt}
 
 -- the supply of model m at address a of one rack and the one at address b of another are indistinguishable: the whole
 -- state, the output, the answer to every query and the reply to whatever comes next

@@ -15,7 +15,7 @@ use Rattle.supply.specs.declared.Supply.{Supply}
 use Rattle.supply.specs.Flt.{onOf}
 use Rattle.plain.specs.Plain.{plainSupply, grammar}
 use Rattle.slots.specs.declared.Rack.{Rack}
-use Rattle.rack.specs.Demand3.{Run, setupOf, supplyAt}
+use Rattle.isolation.specs.Demand3.{Run, setupOf, supplyAt}
 
 unfoldable pub fittingList : List ℕ
 fittingList = replicate 6 255 ++ 0 ∷ 255 ∷ 255 ∷ 3 ∷ replicate 21 255

@@ -14,9 +14,9 @@ use Rattle.supply.specs.declared.Supply.{Supply}
 use Rattle.plain.specs.Plain.{plainSupply}
 use Rattle.slots.specs.declared.Rack.{Rack}
 use Rattle.slots.specs.View.{viewOf}
-use Rattle.rack.specs.Demand3.{Leads, Run}
-use Rattle.rack.proofs.Isolation.{run-seen}
-use Rattle.rack.proofs.Existence.{packed, view-is, answerAs, through}
+use Rattle.isolation.specs.Demand3.{Leads, Run}
+use Rattle.isolation.proofs.Isolation.{run-seen}
+use Rattle.isolation.proofs.Existence.{packed, view-is, answerAs, through}
 use Rattle.engine.specs.declared.Worked.{Worked}
 use Rattle.engine.specs.Engine.{fieldAt, Ran, ran, afterField, fieldsFrom, fieldsOn, callsAfter, callsFrom, callsOn, fullAt, WorkDoes}
 

@@ -18,7 +18,7 @@ use Rattle.field.proofs.Laws.{codeIn, lacking-short}
 use Rattle.plain.specs.Plain.{plainSupply}
 use Rattle.slots.specs.declared.Rack.{Rack}
 use Rattle.slots.specs.View.{viewOf}
-use Rattle.rack.specs.Demand3.{Run}
+use Rattle.isolation.specs.Demand3.{Run}
 use Rattle.engine.specs.Engine.{fieldAt, Ran, ran, allFields, never, callsOn}
 use Rattle.engine.proofs.Fields.{refused-longer, isDone, codeBy, shifted}
 use Rattle.engine.proofs.Cycles.{all-within, all-ended, all-longer, all-still, none-there}

@@ -1,7 +1,7 @@
 -- `main` is safe and ends; the rack and buffers that it passes on satisfy the preconditions of the functions that it
 -- calls.
 use mathlib.Core.Path.{sym}
-use Rattle.rack.proofs.Fitting.{fitted-small}
+use Rattle.fitting.proofs.Fits.{fitted-small}
 use borrow.Author.Needs.{needs}
 use Rattle.controller.proofs.main.Statement.{statement}
 use Rattle.controller.proofs.main.Tie as tie
@@ -12,7 +12,7 @@ use Rattle.console.proofs.buffer.Reads as buffer-reads
 use Rattle.console.proofs.read_full.Reads as read-full-reads
 use Rattle.console.proofs.say_refusal.Reads as say-refusal-reads
 use Rattle.controller.proofs.take_input.Reads as take-input-reads
-use Rattle.rack.proofs.fit.Reads as fit-reads
+use Rattle.fitting.proofs.fit.Reads as fit-reads
 
 slice-aggregate-read-full : tie.Need-slice-aggregate-read-full
 slice-aggregate-read-full c = search needs

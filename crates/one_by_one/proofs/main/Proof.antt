@@ -1,7 +1,7 @@
 -- `main` is safe and ends; the rack and buffers that it passes on satisfy the preconditions of the functions that it
 -- calls.
 use mathlib.Core.Path.{sym}
-use Rattle.rack.proofs.Fitting.{fitted-small}
+use Rattle.fitting.proofs.Fits.{fitted-small}
 use borrow.Author.Needs.{needs}
 use Rattle.one_by_one.proofs.main.Statement.{statement}
 use Rattle.one_by_one.proofs.main.Tie as tie

@@ -6,11 +6,11 @@ use mathlib.Core.Bool.{Bool, true, false, true≢false, _&&_, and-eq-true-iff}
 use lib.Dec.{eqb}
 use lib.ListN.{length, replicate}
 use borrow.Author.Tests.{eqb-true}
 use Rattle.fitting.specs.Fitting.{allAllowed, goodList, Made}
 use Rattle.slots.specs.declared.Rack.{Rack}
 use Rattle.slots.specs.View.{Able}
-use Rattle.rack.specs.declared.Fitted.{Fitted}
-use Rattle.rack.specs.Fit.{FitDoes}
+use Rattle.fitting.specs.declared.Fitted.{Fitted}
+use Rattle.fitting.specs.Fit.{FitDoes}
 
 module _ (l : List ℕ) (g : Bool) (e : g ≡ allAllowed l) (q : Rack) where
   pub good-fit : (m : List ℕ) → (eqb (length l) 31 && g) ≡ true → (length l ≡ 31 → m ≡ l) → Made (record { models = m }) q → FitDoes l (record { code = 0; rack = q })

@@ -19,7 +19,7 @@ use Rattle.slots.specs.declared.Rack.{Rack}
 use Rattle.calls.specs.declared.Answer.{Answer}
 use Rattle.slots.specs.View.{viewOf, Able}
 use Rattle.calls.specs.Calls.{Answered, callAs}
-use Rattle.rack.specs.Demand3.{Leads, Run, supplyAt, Isolated}
+use Rattle.isolation.specs.Demand3.{Leads, Run, supplyAt, Isolated}
 
 -- the line is short, and the view is this rack
 pub record Seen (r : Rack) (v : wire.Rack Supply) : Type 0 where

@@ -1,13 +1,13 @@
 -- `fit` meets its contract.
-use Rattle.rack.proofs.Fitting.{good-fit, bad-fit}
+use Rattle.fitting.proofs.Fits.{good-fit, bad-fit}
 use borrow.Author.Needs.{needs}
-use Rattle.rack.proofs.fit.Statement.{statement}
-use Rattle.rack.proofs.fit.Tie as tie
-use Rattle.rack.proofs.fit.Reads as reads
-use Rattle.rack.proofs.fit.Lts as lts
+use Rattle.fitting.proofs.fit.Statement.{statement}
+use Rattle.fitting.proofs.fit.Tie as tie
+use Rattle.fitting.proofs.fit.Reads as reads
+use Rattle.fitting.proofs.fit.Lts as lts
 use Rattle.fitting.proofs.all_allowed.Reads as all-allowed-reads
 use Rattle.fitting.proofs.fresh_rack.Reads as fresh-rack-reads
 use Rattle.fitting.proofs.models_of.Reads as models-of-reads
 
 all-allowed-requires : tie.Need-all-allowed-requires
 all-allowed-requires c κs = search needs

@@ -20,10 +20,10 @@ use Rattle.plain.specs.Plain.{plainSupply, grammar, trips, stepOf, releasesOf}
 use Rattle.plain.specs.Unaddressed.{unaddressed}
 use Rattle.slots.specs.declared.Rack.{Rack}
 use Rattle.calls.specs.declared.Answer.{Answer}
-use Rattle.rack.specs.declared.Fitted.{Fitted}
+use Rattle.fitting.specs.declared.Fitted.{Fitted}
 use Rattle.calls.specs.Calls.{CallDoes}
 use Rattle.fitting.specs.Fitting.{goodList}
-use Rattle.rack.specs.Fit.{FitDoes}
+use Rattle.fitting.specs.Fit.{FitDoes}
 
 -- one call with a buffer of the given length; Rest is what holds for the rack that it returned, which after a refusal
 -- is the same rack

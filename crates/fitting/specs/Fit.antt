@@ -4,8 +4,8 @@ use mathlib.Core.Path.{_≡_}
 use mathlib.Core.List.{List}
 use mathlib.Core.Bool.{true, false}
 use lib.ListN.{replicate}
 use Rattle.fitting.specs.Fitting.{goodList, Made}
-use Rattle.rack.specs.declared.Fitted.{Fitted}
+use Rattle.fitting.specs.declared.Fitted.{Fitted}
 
 -- a refused list gives the rack of 31 empty slots
 pub record FitDoes (l : List ℕ) (f : Fitted) : Type 0 where

@@ -19,7 +19,7 @@ use Rattle.slots.specs.View.{viewOf}
 use Rattle.calls.specs.declared.Answer.{Answer}
 use Rattle.calls.specs.Calls.{refusal, Answered, callAs}
 use Rattle.fitting.specs.Fitting.{goodList}
-use Rattle.rack.specs.Demand3.{Through, Leads, Run, setupOf}
+use Rattle.isolation.specs.Demand3.{Through, Leads, Run, setupOf}
 
 -- a record with this view; its line holds only the kept characters, where the code's array has 64 bytes
 abbrev pub packed : wire.Rack Supply → Rack
