@@ -1,12 +1,12 @@
 -- Acts that need not go through all three stages: a refused order changes nothing, and FEVE gains nothing from a figure
 -- for a setting or from a query.
-use mathlib.Core.Path.{_≡_, refl, sym, _∙_}
+use mathlib.Core.Path.{_≡_, refl, sym}
 use mathlib.Core.Bool.{Bool, true, false, true≢false}
-use Prim.Native.Nat.{ℕ, _%_}
+use Prim.Native.Nat.{ℕ}
 use lib.Dec.{eqb}
-use borrow.Author.Tests.{eq-eqb, ne-eqb}
+use borrow.Author.Tests.{ne-eqb}
 use Rattle.base.specs.Choice.{pick}
-use Rattle.base.proofs.Choice.{pick-true, pick-false}
+use Rattle.base.proofs.Choice.{pick-false}
 use Rattle.supply.specs.declared.Supply.{Supply}
 use Rattle.supply.specs.declared.Target.{Target}
 use Rattle.supply.specs.declared.Target.the-variants.{Pv, Pc, Ovp, Uvl}
@@ -19,7 +19,6 @@ use Rattle.supply.specs.Flt.{fltOf, settled}
 use Rattle.supply.proofs.Gains.{settled-idle}
 use Rattle.settings.specs.Settings.{withSetting}
 use Rattle.codes.specs.Codes.{orderCode}
-use Rattle.codes.proofs.Accepted.{set-low}
 use Rattle.orders.specs.Orders.{remote, remoteBy, ordered, afterOrder}
 use Rattle.acts.specs.Acts.{codeOf, clearingQuery, clearingOrder, clearingAct, cleared, acted, performed}
 
@@ -66,14 +65,14 @@ module _ (m : ℕ) (s : Supply) where
   unfolding performed
   unmoved a n = pick-false _ _ _ (ne-eqb (codeOf m s a) 0 n)
 
-  pub refused : (o : Order) {k : ℕ} → k ≡ orderCode m s o → (k ≡ 0 → ⊥) → s ≡ performed m s (Obey o)
-  unfolding codeOf
-  refused o e ne = sym (unmoved (Obey o) (λ z. ne (e ∙ z)))
-
-  -- an accepted figure is stored and nothing else happens; its low 32 bits are all of it
-  pub set-done : (t : Target) (n : ℕ) → orderCode m s (Set t n) ≡ 0 → remoteBy t (withSetting t (n % 0x100000000) s) ≡ performed m s (Obey (Set t n))
-  unfolding performed codeOf acted clearingAct clearingOrder ordered
-  set-done t n e = rw (set-low m s t n e) (sym (pick-true _ _ _ (eq-eqb (orderCode m s (Set t n)) 0 e) ∙ settled-idle s _ (set-flt t n s)))
+  -- a figure for a setting, accepted or refused, ends as it was judged
+  pub set-closed : (t : Target) (n : ℕ) → afterOrder m s (Set t n) ≡ performed m s (Obey (Set t n))
+  unfolding performed codeOf acted clearingAct clearingOrder afterOrder ordered
+  set-closed t n = byCode (eqb (orderCode m s (Set t n)) 0)
+    where
+      byCode : (b : Bool) → pick b (remoteBy t (withSetting t n s)) s ≡ pick b (settled s (remoteBy t (withSetting t n s))) s
+      byCode true = sym (settled-idle s _ (set-flt t n s))
+      byCode false = refl
 
   -- a query does no more than clear FEVE, and only FEVE? does that
   pub query-done : (q : Query) → cleared (clearingQuery q) s ≡ performed m s (Ask q)

@@ -50,23 +50,15 @@ fn accept(before: Supply, after: Supply) -> Outcome
     }
 }
 
-// A figure for a setting. A refused one changes nothing; no bit of FLT depends on a setting, so FEVE gains nothing.
+// A figure for a setting. No bit of FLT depends on a setting, so FEVE gains nothing.
 pub fn obey_set(model: u8, s: Supply, t: Target, n: u64) -> Outcome
     ensures { λ r. ⌜ (r .code ≡ orderCode model s (Order.Set t n))
         × (r .supply ≡ performed model s (Act.Obey (Order.Set t n))) ⌝ }
 {
-    let code = codes::set_code(model, s, t, n);
-    if code == 0 {
-        let after = orders::put_setting(s, t, (n % 0x1_0000_0000) as u32);
-        return Outcome {
-            code,
-            supply: after,
-        };
-    }
-    Outcome { code, supply: s }
+    orders::set_done(model, s, t, n)
 }
 
-// An order: its error code, and the supply after it. A refused order changes nothing; CLS and RST close with FEVE 0.
+// An order: its error code, and the supply after it. CLS and RST close with FEVE 0.
 pub fn obey_order(model: u8, s: Supply, o: Order) -> Outcome
     ensures { λ r. ⌜ (r .code ≡ orderCode model s o) × (r .supply ≡ performed model s (Act.Obey o)) ⌝ }
 {

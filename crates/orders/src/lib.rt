@@ -31,7 +31,7 @@ fn to_remote(s: Supply) -> Supply
 
 // Stores an accepted figure; PV and PC also take remote control. One match does both, so that the record is
 // written once.
-pub fn put_setting(s: Supply, t: Target, x: u32) -> Supply
+fn put_setting(s: Supply, t: Target, x: u32) -> Supply
     ensures { λ r. ⌜ r ≡ remoteBy t (withSetting t x s) ⌝ }
 {
     let mode = remote_mode(s.mode);
@@ -145,16 +145,30 @@ fn carried_out(model: u8, s: Supply, o: Order) -> Supply
     }
 }
 
-// Checks an order and, if it is accepted, carries it out: its error code, and the supply after it.
+// A figure for a setting: its error code, and the supply after it.
+pub fn set_done(model: u8, s: Supply, t: Target, n: u64) -> Outcome
+    ensures { λ r. ⌜ (r .code ≡ orderCode model s (Order.Set t n))
+        × (r .supply ≡ afterOrder model s (Order.Set t n)) ⌝ }
+{
+    let code = codes::set_code(model, s, t, n);
+    if code == 0 {
+        let supply = put_setting(s, t, (n % 0x1_0000_0000) as u32);
+        return Outcome { code, supply };
+    }
+    Outcome { code, supply: s }
+}
+
+// An order: its error code, and the supply after it. A figure, as most orders are, takes the shorter path.
 pub fn order_done(model: u8, s: Supply, o: Order) -> Outcome
     ensures { λ r. ⌜ (r .code ≡ orderCode model s o) × (r .supply ≡ afterOrder model s o) ⌝ }
 {
+    if let Order::Set(t, n) = o {
+        return set_done(model, s, t, n);
+    }
     let code = codes::order_code(model, s, o);
     if code != 0 {
         return Outcome { code, supply: s };
     }
-    Outcome {
-        code,
-        supply: carried_out(model, s, o),
-    }
+    let supply = carried_out(model, s, o);
+    Outcome { code, supply }
 }

@@ -1,6 +1,7 @@
 -- `carried_out` meets its contract.
 use Rattle.orders.specs.Orders.{ordered}
-use Rattle.codes.proofs.Accepted.{set-low}
+use mathlib.Core.Path.{_∙_}
+use Rattle.orders.proofs.Accepted.{stored}
 use borrow.Author.Needs.{needs}
 use Rattle.orders.proofs.carried_out.Statement.{statement}
 use Rattle.orders.proofs.carried_out.Tie as tie
@@ -60,11 +61,9 @@ reset-supply-requires : tie.Need-reset-supply-requires
 reset-supply-requires c κs = search needs
 
 returns : tie.Need-returns
-unfolding ordered
 returns c =
     let o-is = c .before .before .o .given .1 in
-    let accepted = c .before .before .before .before .pre in
-    rw o-is (rw (set-low _ _ _ _ (rw o-is at accepted)) at (c .put-setting .ensures))
+    rw o-is (c .put-setting .ensures ∙ stored _ _ _ _ (rw o-is at (c .before .before .before .before .pre)))
 
 returns-2 : tie.Need-returns-2
 unfolding ordered
