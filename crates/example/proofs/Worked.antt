@@ -37,7 +37,7 @@ use Rattle.isolation.specs.Demand3.{setupOf, supplyAt}
 use Rattle.fitting.specs.Fitting.{allAllowed}
 use Rattle.isolation.proofs.Isolation.{isolated-code}
 use Rattle.isolation.proofs.Existence.{some-run}
-use Rattle.example.specs.Worked.{fittingList, tripping, tripped, released, calls, listAlone, alone, answers, expected, typed, shareTripping, shareTripped, shareReleased, shareNeighbour, endState, WorkedOut}
+use Rattle.example.specs.Worked.{fittingList, tripping, tripped, released, calls, listAlone, alone, answers, workedAnswers, lineEntry, shareTripping, shareTripped, shareReleased, shareNeighbour, endState, WorkedOut}
 
 -- the unfoldings: lists and fields; lines; the supply and its replies
 share-6 : shareOf grammar (setupOf fittingList) calls 6 ≡ shareTripping ++ shareTripped ++ shareReleased
@@ -53,8 +53,8 @@ share-alone : shareOf grammar (setupOf listAlone) alone 6 ≡ shareTripping ++ s
 unfolding listAlone alone shareTripping shareTripped shareReleased brought share.typed parse readField headerCode lengthFits valuesFit classOf heardOf asksOf rightChecksum askedBy parameterOf readAs findWord readNumber scaledValue wholeUnits wellFormed firstAt runValue allDigits readHex hexOf isHex checksum total
 share-alone = refl
 
-replies : answers (freshRack plainSupply (setupOf fittingList)) calls ≡ expected
-unfolding fittingList calls tripping tripped released expected callOf byteOn charOn parse readField headerCode lengthFits valuesFit classOf heardOf asksOf rightChecksum askedBy parameterOf readAs findWord readNumber scaledValue wholeUnits wellFormed firstAt runValue allDigits readHex hexOf isHex stepOf replyTo obeyed repliedTo saidOf codeText wordText answerText ending answerOf modeWord pressOf actOf performed acted clearingQuery clearingOrder clearingAct codeOf ordered reset outDone fldDone remote remoteBy orderCode setCode sampled linesChanged anyRises falls bitAt pressed disarmed turnedOn turned stepped nearestIn signedOf leastOf mostOf withSetting settingOf settled onOf linesClear inLimit fltOf fresh figure decimals shortest fixed checksum total hexPair voltReading ampReading limitsOf table
+replies : answers (freshRack plainSupply (setupOf fittingList)) calls ≡ workedAnswers
+unfolding fittingList calls tripping tripped released workedAnswers callOf byteOn charOn parse readField headerCode lengthFits valuesFit classOf heardOf asksOf rightChecksum askedBy parameterOf readAs findWord readNumber scaledValue wholeUnits wellFormed firstAt runValue allDigits readHex hexOf isHex stepOf replyTo obeyed repliedTo saidOf codeText wordText answerText ending answerOf modeWord pressOf actOf performed acted clearingQuery clearingOrder clearingAct codeOf ordered reset outDone fldDone remote remoteBy orderCode setCode sampled linesChanged anyRises falls bitAt pressed disarmed turnedOn turned stepped nearestIn signedOf leastOf mostOf withSetting settingOf settled onOf linesClear inLimit fltOf fresh figure decimals shortest fixed checksum total hexPair voltReading ampReading limitsOf table
 replies = refl
 
 end-6 : plain plainSupply 0 (shareTripping ++ shareTripped ++ shareReleased) ≡ endState
@@ -70,8 +70,8 @@ unfolding shareTripping shareTripped releasesOf releases classOf heardOf asksOf 
 tripped-6 =
     record {
       before =
-          typed "FENA 5A" ∷ typed "PV 4" ∷ typed "RST" ∷ typed "PV?" ∷
-          typed "PV 5" ∷ typed "OVP 5.5" ∷ typed "OUT 1" ∷ typed "FENA?" ∷ field 5 (6 ∷ 179 ∷ 9 ∷ 0 ∷ 0 ∷ []) ∷ [];
+          lineEntry "FENA 5A" ∷ lineEntry "PV 4" ∷ lineEntry "RST" ∷ lineEntry "PV?" ∷
+          lineEntry "PV 5" ∷ lineEntry "OVP 5.5" ∷ lineEntry "OUT 1" ∷ lineEntry "FENA?" ∷ field 5 (6 ∷ 179 ∷ 9 ∷ 0 ∷ 0 ∷ []) ∷ [];
       entry = field 5 (6 ∷ 179 ∷ 10 ∷ 0 ∷ 0 ∷ []);
       mid = shareTripped;
       splits = refl;

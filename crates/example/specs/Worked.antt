@@ -86,8 +86,8 @@ abbrev pub answers : wire.Rack Supply → List Call → List Came
 answers r [] = []
 answers r (c ∷ cs) = cameOf (callOf plainSupply r c) ∷ answers (after plainSupply r (callOf plainSupply r c)) cs
 
-unfoldable pub expected : List Came
-expected =
+unfoldable pub workedAnswers : List Came
+workedAnswers =
     yes 6 [] ∷ no 1 ∷ yes 14 (codes "OK\rOK\r") ∷
     yes 16 (codes "OK\rOK\r0.0000\r") ∷ yes 16 (codes "OK\rOK\r") ∷ yes 15 (codes "OK\r5A\r") ∷
     yes 8 [] ∷ no 2 ∷
@@ -98,32 +98,32 @@ expected =
     yes 15 (codes "OK\rOK\r") ∷ yes 15 (codes "00$60\r5.0000\r") ∷ yes 15 (codes "50\r00\r") ∷
     yes 5 [] ∷ yes 5 [] ∷ yes 13 (codes "ON\rLOC\r") ∷ []
 
-abbrev pub typed : String → Entry
-typed t = line (codes t) false
+abbrev pub lineEntry : String → Entry
+lineEntry t = line (codes t) false
 
 -- the share of slot 6 up to the trip, from there to the release, and from there on
 unfoldable pub shareTripping : List Entry
 shareTripping =
-    typed "FENA 5A" ∷ typed "PV 4" ∷ typed "RST" ∷ typed "PV?" ∷
-    typed "PV 5" ∷ typed "OVP 5.5" ∷ typed "OUT 1" ∷ typed "FENA?" ∷
+    lineEntry "FENA 5A" ∷ lineEntry "PV 4" ∷ lineEntry "RST" ∷ lineEntry "PV?" ∷
+    lineEntry "PV 5" ∷ lineEntry "OVP 5.5" ∷ lineEntry "OUT 1" ∷ lineEntry "FENA?" ∷
     field 5 (6 ∷ 179 ∷ 9 ∷ 0 ∷ 0 ∷ []) ∷ field 5 (6 ∷ 179 ∷ 10 ∷ 0 ∷ 0 ∷ []) ∷ []
 
 unfoldable pub shareTripped : List Entry
 shareTripped =
-    typed "OUT 0" ∷ typed "FLT?" ∷ field 4 (6 ∷ 32 ∷ []) ∷ typed "OUT 1" ∷ typed "FLT?" ∷ field 4 (6 ∷ 0 ∷ []) ∷
-    field 2 (6 ∷ 0 ∷ []) ∷ typed "GPV 5.3" ∷ []
+    lineEntry "OUT 0" ∷ lineEntry "FLT?" ∷ field 4 (6 ∷ 32 ∷ []) ∷ lineEntry "OUT 1" ∷ lineEntry "FLT?" ∷ field 4 (6 ∷ 0 ∷ []) ∷
+    field 2 (6 ∷ 0 ∷ []) ∷ lineEntry "GPV 5.3" ∷ []
 
 unfoldable pub shareReleased : List Entry
 shareReleased =
-    typed "OUT 1" ∷ typed "FLT?$25" ∷ typed "PV?" ∷ typed "FEVE?" ∷ typed "FEVE?" ∷
-    field 2 (6 ∷ 2 ∷ []) ∷ field 2 (6 ∷ 1 ∷ []) ∷ typed "FLD?" ∷ typed "RMT?" ∷ []
+    lineEntry "OUT 1" ∷ lineEntry "FLT?$25" ∷ lineEntry "PV?" ∷ lineEntry "FEVE?" ∷ lineEntry "FEVE?" ∷
+    field 2 (6 ∷ 2 ∷ []) ∷ field 2 (6 ∷ 1 ∷ []) ∷ lineEntry "FLD?" ∷ lineEntry "RMT?" ∷ []
 
 -- and the neighbour's share up to the release: neither the ill-formed global nor the ADR in error is in it, although
 -- the neighbour was selected
 unfoldable pub shareNeighbour : List Entry
 shareNeighbour =
-    typed "PV 10" ∷ typed "OUT 1" ∷ typed "GPV 5.3" ∷ field 5 (9 ∷ 78 ∷ 32 ∷ 0 ∷ 0 ∷ []) ∷
-    typed "GPV 6$00" ∷ typed "PV?" ∷ []
+    lineEntry "PV 10" ∷ lineEntry "OUT 1" ∷ lineEntry "GPV 5.3" ∷ field 5 (9 ∷ 78 ∷ 32 ∷ 0 ∷ 0 ∷ []) ∷
+    lineEntry "GPV 6$00" ∷ lineEntry "PV?" ∷ []
 
 -- slot 6 at the end: the setting that the global did not change, the output ordered on, no trip, foldback armed and the
 -- panel in control; the enabled faults, no events after they were read, and the last counts
@@ -150,7 +150,7 @@ endState =
 -- THE WHOLE OUTCOME
 pub record WorkedOut : Type 0 where
   -- what each call returns
-  pub answers-are : answers (freshRack plainSupply (setupOf fittingList)) calls ≡ expected
+  pub answers-are : answers (freshRack plainSupply (setupOf fittingList)) calls ≡ workedAnswers
   -- the share of slot 6, with trip and release in their places; and the neighbour's, up to the release
   pub share-is : shareOf grammar (setupOf fittingList) calls 6 ≡ shareTripping ++ shareTripped ++ shareReleased
   pub share-beside : shareOf grammar (setupOf fittingList) (tripping ++ tripped) 9 ≡ shareNeighbour
