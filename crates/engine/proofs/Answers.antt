@@ -16,7 +16,7 @@ use Rattle.wire.proofs.ForCode.{replies-append}
 use Rattle.supply.specs.declared.Supply.{Supply}
 use Rattle.field.specs.Fields.{readField}
 use Rattle.plain.specs.Plain.{plainSupply, grammar}
-use Rattle.pieces.specs.Pieces.{itemsAt}
+use Rattle.addressed.specs.Pieces.{itemsAt}
 use Rattle.engine.specs.Engine.{Ran, ran, afterField, fieldsFrom}
 
 -- what items hand out on the line of the rack v, and what they draw

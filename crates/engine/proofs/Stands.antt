@@ -28,10 +28,11 @@ use Rattle.serial.specs.declared.Line.{Line}
 use Rattle.serial.specs.View.{wireOf, Short}
 use Rattle.plain.specs.Plain.{leastReply}
 use Rattle.slots.specs.View.{viewOf, rackIs, due}
-use Rattle.pieces.specs.Pieces.{After, Leaves, slotsAfter, refusedAs, sampleAs, itemsAt, PieceRefused, PieceTaken, PieceDoes}
+use Rattle.addressed.specs.Pieces.{After, Leaves, slotsAfter, refusedAs, itemsAt, PieceRefused, PieceTaken, PieceDoes}
+use Rattle.addressed.specs.Addressed.{sampleAs}
 use Rattle.engine.specs.declared.Worked.{Worked}
 use Rattle.engine.specs.Engine.{Ran, ran, afterField, fieldsFrom, fieldsOn, fullAt}
-use Rattle.pieces.proofs.Pieces.{bad-header, sample-done}
+use Rattle.addressed.proofs.Addressed.{bad-header, sample-done}
 use Rattle.engine.proofs.Spent.{spent}
 use Rattle.engine.proofs.Answers.{answerSince, onward, sentBy, onward-new, drawn, after-part, after-all}
 

@@ -38,15 +38,15 @@ pub fn work(r: Rack, s: &[u8], out: &mut [u8], full: usize, ending: u8) -> Worke
     while going {
         let rest = base::part_from(s, used);
         let setup = rack.setup;
-        let model = pieces::sample_model(setup, rest, left);
+        let model = addressed::sample_model(setup, rest, left);
         if model != 255 {
             let k = field::byte_at(rest, 3) as usize;
-            let supply = pieces::take_sample(model, rack.slots[k], rest);
+            let supply = addressed::take_sample(model, rack.slots[k], rest);
             rack.slots[k] = supply;
             used += 8;
             going = next < full;
         } else if pieces::is_serial(rest, left) {
-            let k = pieces::slot_or_first(setup, selected);
+            let k = addressed::slot_or_first(setup, selected);
             let p = pieces::take_serial(
                 setup,
                 &mut kept,
@@ -79,8 +79,8 @@ pub fn work(r: Rack, s: &[u8], out: &mut [u8], full: usize, ending: u8) -> Worke
             code = 2;
             going = false;
         } else {
-            let k = pieces::slot_or_first(setup, field::byte_at(rest, 3));
-            let e = pieces::take_event(setup, rack.slots[k], rest);
+            let k = addressed::slot_or_first(setup, field::byte_at(rest, 3));
+            let e = addressed::take_event(setup, rack.slots[k], rest);
             let supply = e.supply;
             rack.slots[k] = supply;
             code = e.code;

@@ -1,2 +1,1 @@
-pub mod Chars
-pub mod Pieces
+pub mod Lines

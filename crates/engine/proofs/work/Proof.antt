@@ -8,8 +8,8 @@ use denote.Ref.{now}
 use Rattle.base.specs.Choice.{bit}
 use Rattle.supply.specs.State.{fresh}
 use Rattle.serial.specs.View.{lineOf}
-use Rattle.pieces.specs.Pieces.{eventAs}
-use Rattle.pieces.proofs.Pieces.{not-serial, sample-known}
+use Rattle.addressed.specs.Addressed.{eventAs}
+use Rattle.addressed.proofs.Addressed.{not-serial, sample-known}
 use Rattle.engine.proofs.Stands.{Inv, inv-start, left-in, used-in, used-less, inv-next, sample-in, sample-less, inv-sample, inv-few, few-less, refused-answer, printed-said, printed-none}
 use Rattle.engine.proofs.work.Statement.{statement}
 use Rattle.engine.proofs.work.Tie as tie
@@ -17,10 +17,10 @@ use Rattle.engine.proofs.work.Reads as reads
 use Rattle.engine.proofs.work.Lts as lts
 use Rattle.base.proofs.part_from.Reads as part-from-reads
 use Rattle.pieces.proofs.is_serial.Reads as is-serial-reads
-use Rattle.pieces.proofs.sample_model.Reads as sample-model-reads
-use Rattle.pieces.proofs.slot_or_first.Reads as slot-or-first-reads
-use Rattle.pieces.proofs.take_event.Reads as take-event-reads
-use Rattle.pieces.proofs.take_sample.Reads as take-sample-reads
+use Rattle.addressed.proofs.sample_model.Reads as sample-model-reads
+use Rattle.addressed.proofs.slot_or_first.Reads as slot-or-first-reads
+use Rattle.addressed.proofs.take_event.Reads as take-event-reads
+use Rattle.addressed.proofs.take_sample.Reads as take-sample-reads
 use Rattle.pieces.proofs.take_serial.Reads as take-serial-reads
 use Rattle.field.proofs.byte_at.Reads as byte-at-reads
 use Rattle.globals.proofs.order_all.Reads as order-all-reads

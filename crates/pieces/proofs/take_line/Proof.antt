@@ -5,16 +5,16 @@ use lib.ListN.{length}
 use denote.Ref.{now}
 use Rattle.serial.specs.View.{lineOf}
 use Rattle.slots.proofs.Fairness.{sized}
-use Rattle.pieces.proofs.Pieces.{feed-within, no-line, one-line}
+use Rattle.pieces.proofs.Lines.{feed-within, no-line, one-line}
 use borrow.Author.Needs.{needs}
 use Rattle.pieces.proofs.take_line.Statement.{statement}
 use Rattle.pieces.proofs.take_line.Tie as tie
 use Rattle.pieces.proofs.take_line.Reads as reads
 use Rattle.pieces.proofs.take_line.Lts as lts
 use Rattle.pieces.proofs.line_ended.Reads as line-ended-reads
-use Rattle.pieces.proofs.past_feed.Reads as past-feed-reads
+use Rattle.chars.proofs.past_feed.Reads as past-feed-reads
 use Rattle.pieces.proofs.silent.Reads as silent-reads
-use Rattle.pieces.proofs.take_chars.Reads as take-chars-reads
+use Rattle.chars.proofs.take_chars.Reads as take-chars-reads
 use Rattle.slots.proofs.end_one.Reads as end-one-reads
 
 take-chars-requires : tie.Need-take-chars-requires

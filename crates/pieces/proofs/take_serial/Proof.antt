@@ -6,7 +6,8 @@ use borrow.Author.Tests.{eqb-true}
 use Rattle.field.specs.Fields.{tagOf, payloadOf}
 use Rattle.field.proofs.Laws.{header-good}
 use Rattle.serial.specs.View.{lineOf}
-use Rattle.pieces.proofs.Pieces.{begun, bad-header, first-line}
+use Rattle.addressed.proofs.Addressed.{bad-header}
+use Rattle.pieces.proofs.Lines.{begun, first-line}
 use borrow.Author.Needs.{needs}
 use Rattle.pieces.proofs.take_serial.Statement.{statement}
 use Rattle.pieces.proofs.take_serial.Tie as tie

@@ -1,10 +1,10 @@
 -- `take_sample` meets its contract.
 use mathlib.Core.Path.{refl}
 use borrow.Author.Needs.{needs}
-use Rattle.pieces.proofs.take_sample.Statement.{statement}
-use Rattle.pieces.proofs.take_sample.Tie as tie
-use Rattle.pieces.proofs.take_sample.Reads as reads
-use Rattle.pieces.proofs.take_sample.Lts as lts
+use Rattle.addressed.proofs.take_sample.Statement.{statement}
+use Rattle.addressed.proofs.take_sample.Tie as tie
+use Rattle.addressed.proofs.take_sample.Reads as reads
+use Rattle.addressed.proofs.take_sample.Lts as lts
 use Rattle.acts.proofs.sampled.Reads as sampled-reads
 use Rattle.field.proofs.sample_counts.Reads as sample-counts-reads
 

@@ -7,12 +7,12 @@ use native.Mathlib.Omega.{arith}
 use lib.Dec.{eqb}
 use borrow.Author.Tests.{not-true, not-false, eqb-true}
 use Rattle.serial.specs.View.{lineOf, Short}
-use Rattle.pieces.specs.Pieces.{Typing}
-use Rattle.pieces.proofs.Chars.{typing-none, typing-more}
-use Rattle.pieces.proofs.take_chars.Statement.{statement}
-use Rattle.pieces.proofs.take_chars.Tie as tie
-use Rattle.pieces.proofs.take_chars.Reads as reads
-use Rattle.pieces.proofs.take_chars.Lts as lts
+use Rattle.chars.specs.Chars.{Typing}
+use Rattle.chars.proofs.Chars.{typing-none, typing-more}
+use Rattle.chars.proofs.take_chars.Statement.{statement}
+use Rattle.chars.proofs.take_chars.Tie as tie
+use Rattle.chars.proofs.take_chars.Reads as reads
+use Rattle.chars.proofs.take_chars.Lts as lts
 use Rattle.serial.proofs.take_char.Reads as take-char-reads
 
 abbrev Inv-loop : tie.InvT-loop

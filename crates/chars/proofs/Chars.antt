@@ -16,7 +16,7 @@ use Rattle.serial.specs.View.{wireOf, Short}
 use Rattle.wire.proofs.Stream.{on-other}
 use Rattle.serial.proofs.Chars.{char-keeps}
 use Rattle.slots.specs.View.{due}
-use Rattle.pieces.specs.Pieces.{Typing}
+use Rattle.chars.specs.Chars.{Typing}
 
 stays : (w : Wire) (x : ℕ) → charOn w x .sel ≡ w .sel
 stays w x = char-keeps (λ v. v .sel ≡ w .sel) w x refl refl refl refl

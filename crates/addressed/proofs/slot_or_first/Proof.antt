@@ -5,10 +5,10 @@ use mathlib.Core.Bool.{true≢false}
 use lib.ListN.{length}
 use Rattle.wire.proofs.Calls.{fitted-below}
 use borrow.Author.Needs.{needs}
-use Rattle.pieces.proofs.slot_or_first.Statement.{statement}
-use Rattle.pieces.proofs.slot_or_first.Tie as tie
-use Rattle.pieces.proofs.slot_or_first.Reads as reads
-use Rattle.pieces.proofs.slot_or_first.Lts as lts
+use Rattle.addressed.proofs.slot_or_first.Statement.{statement}
+use Rattle.addressed.proofs.slot_or_first.Tie as tie
+use Rattle.addressed.proofs.slot_or_first.Reads as reads
+use Rattle.addressed.proofs.slot_or_first.Lts as lts
 use Rattle.serial.proofs.has_supply.Reads as has-supply-reads
 
 has-supply-requires : tie.Need-has-supply-requires

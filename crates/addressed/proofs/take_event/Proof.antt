@@ -9,14 +9,14 @@ use lib.ListN.{getD}
 use Rattle.wire.specs.Wire.{fitted}
 use Rattle.field.specs.Fields.{tagOf, payloadOf, valuesFit, actOf}
 use Rattle.field.proofs.Laws.{header-good}
-use Rattle.pieces.proofs.Pieces.{not-serial, bad-header, no-supply, bad-value, event-done}
+use Rattle.addressed.proofs.Addressed.{not-serial, bad-header, no-supply, bad-value, event-done}
 use borrow.Author.Needs.{needs}
-use Rattle.pieces.proofs.take_event.Statement.{statement}
-use Rattle.pieces.proofs.take_event.Tie as tie
-use Rattle.pieces.proofs.take_event.Reads as reads
-use Rattle.pieces.proofs.take_event.Lts as lts
+use Rattle.addressed.proofs.take_event.Statement.{statement}
+use Rattle.addressed.proofs.take_event.Tie as tie
+use Rattle.addressed.proofs.take_event.Reads as reads
+use Rattle.addressed.proofs.take_event.Lts as lts
 use Rattle.acts.proofs.perform.Reads as perform-reads
-use Rattle.pieces.proofs.event_left.Reads as event-left-reads
+use Rattle.addressed.proofs.event_left.Reads as event-left-reads
 use Rattle.field.proofs.act_of.Reads as act-of-reads
 use Rattle.field.proofs.byte_at.Reads as byte-at-reads
 use Rattle.field.proofs.payload.Reads as payload-reads

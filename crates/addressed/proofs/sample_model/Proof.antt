@@ -7,10 +7,10 @@ use borrow.Author.Tests.{eq-eqb, ne-eqb}
 use Rattle.wire.specs.Wire.{fitted}
 use Rattle.wire.proofs.Calls.{fitted-below}
 use borrow.Author.Needs.{needs}
-use Rattle.pieces.proofs.sample_model.Statement.{statement}
-use Rattle.pieces.proofs.sample_model.Tie as tie
-use Rattle.pieces.proofs.sample_model.Reads as reads
-use Rattle.pieces.proofs.sample_model.Lts as lts
+use Rattle.addressed.proofs.sample_model.Statement.{statement}
+use Rattle.addressed.proofs.sample_model.Tie as tie
+use Rattle.addressed.proofs.sample_model.Reads as reads
+use Rattle.addressed.proofs.sample_model.Lts as lts
 use Rattle.field.proofs.byte_at.Reads as byte-at-reads
 use Rattle.field.proofs.is_sample.Reads as is-sample-reads
 use Rattle.serial.proofs.model_at.Reads as model-at-reads

@@ -3,10 +3,10 @@ use mathlib.Core.Logic.{inl, inr}
 use mathlib.Core.Path.{refl}
 use native.Mathlib.Omega.{arith}
 use borrow.Author.Needs.{needs}
-use Rattle.pieces.proofs.past_feed.Statement.{statement}
-use Rattle.pieces.proofs.past_feed.Tie as tie
-use Rattle.pieces.proofs.past_feed.Reads as reads
-use Rattle.pieces.proofs.past_feed.Lts as lts
+use Rattle.chars.proofs.past_feed.Statement.{statement}
+use Rattle.chars.proofs.past_feed.Tie as tie
+use Rattle.chars.proofs.past_feed.Reads as reads
+use Rattle.chars.proofs.past_feed.Lts as lts
 
 returns : tie.Need-returns
 returns c = inl (refl, λ h. absurd (omega (arith, h, c .if1 .taken)))
