@@ -1,5 +1,5 @@
--- What clears FEVE, and that nothing else does.
-use mathlib.Core.Path.{_≡_, refl, sym, ap}
+-- Which query and which orders clear FEVE, and that no others do.
+use mathlib.Core.Path.{_≡_, refl, sym}
 use mathlib.Core.Logic.{_⊎_, inl, inr, ⊎-elim}
 use mathlib.Core.Bool.{true, false, false≢true}
 use mathlib.Mathlib.Data.Bool.Basic.{eq-false-of-not-eq-true}
@@ -7,11 +7,9 @@ use Rattle.supply.specs.declared.Order.{Order}
 use Rattle.supply.specs.declared.Order.the-variants.{Set, Ovm, Out, Fld, Ast, Rmt, Fena, Cls, Rst}
 use Rattle.supply.specs.declared.Query.{Query}
 use Rattle.supply.specs.declared.Query.the-variants as query
-use Rattle.supply.specs.declared.Act.the-variants.{Lines, Sample, Press, Turn, Obey, Ask, Nothing}
 use Rattle.acts.specs.Acts.{clearingQuery, clearingOrder}
-use Rattle.acts.specs.Feve.{ClearingActs}
 
-query-is : (q : Query) → clearingQuery q ≡ true → q ≡ query.Feve
+pub query-is : (q : Query) → clearingQuery q ≡ true → q ≡ query.Feve
 unfolding clearingQuery
 query-is query.Feve e = refl
 query-is query.Pv e = absurd (false≢true e)
@@ -28,7 +26,7 @@ query-is query.Mode e = absurd (false≢true e)
 query-is query.Flt e = absurd (false≢true e)
 query-is query.Fena e = absurd (false≢true e)
 
-order-is : (o : Order) → clearingOrder o ≡ true → (o ≡ Cls) ⊎ (o ≡ Rst)
+pub order-is : (o : Order) → clearingOrder o ≡ true → (o ≡ Cls) ⊎ (o ≡ Rst)
 unfolding clearingOrder
 order-is Cls e = inl refl
 order-is Rst e = inr refl
@@ -46,13 +44,3 @@ query-keeps q n = sym (eq-false-of-not-eq-true (λ e. n (query-is q e)))
 
 pub order-keeps : (o : Order) → (o ≡ Cls → ⊥) → (o ≡ Rst → ⊥) → false ≡ clearingOrder o
 order-keeps o n k = sym (eq-false-of-not-eq-true (λ e. ⊎-elim n k (order-is o e)))
-
--- WHAT CLEARS FEVE
-pub clearing-acts : ClearingActs
-clearing-acts (Ask q) e = inl (ap Ask (query-is q e))
-clearing-acts (Obey o) e = inr (⊎-elim (λ p. inl (ap Obey p)) (λ p. inr (ap Obey p)) (order-is o e))
-clearing-acts (Lines b) e = absurd (false≢true e)
-clearing-acts (Sample v a) e = absurd (false≢true e)
-clearing-acts (Press k) e = absurd (false≢true e)
-clearing-acts (Turn t raw) e = absurd (false≢true e)
-clearing-acts Nothing e = absurd (false≢true e)

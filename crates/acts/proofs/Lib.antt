@@ -1,6 +1,2 @@
 pub mod Idle
-pub mod Feve
-pub mod Keeps
-pub mod Coherent
-pub mod Trips
 pub mod Clearing

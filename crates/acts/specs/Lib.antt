@@ -1,4 +1,1 @@
 pub mod Acts
-pub mod Coherent
-pub mod Feve
-pub mod Releases

@@ -17,7 +17,7 @@ use Rattle.codes.specs.Codes.{setCode, orderCode}
 use Rattle.orders.specs.Orders.{remote, remoteBy, outDone, fldDone, reset, ordered}
 use Rattle.acts.specs.Acts.{codeOf, clearingQuery, clearingOrder, clearingAct, acted, performed}
 use Rattle.answers.specs.Answers.{modeWord, answerOf}
-use Rattle.acts.specs.Releases.{ovp, releases}
+use Rattle.guarantees.specs.Releases.{ovp, releases}
 use Rattle.words.specs.Words.{findWord}
 use Rattle.parameters.specs.Parameters.{readAs, parameterOf}
 use Rattle.asks.specs.Words.{askedBy}

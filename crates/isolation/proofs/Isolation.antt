@@ -10,7 +10,7 @@ use Rattle.wire.specs.Rack.{callOf, after, runFrom, run, slot, plain}
 use Rattle.wire.specs.Rack as wire
 use Rattle.wire.specs.declared.Setup.{Setup}
 use Rattle.supply.specs.declared.Supply.{Supply}
-use Rattle.acts.specs.Coherent.{Coherent}
+use Rattle.guarantees.specs.Coherent.{Coherent}
 use Rattle.plain.specs.Plain.{plainSupply, grammar}
 use Rattle.plain.proofs.Isolation.{isolated}
 use Rattle.plain.proofs.Unaddressed.{addresses-unread}

@@ -14,8 +14,8 @@ use Rattle.supply.specs.declared.Supply.{Supply}
 use Rattle.supply.specs.State.{fresh}
 use Rattle.supply.specs.Flt.{onOf}
 use Rattle.settings.specs.Lawful.{Lawful}
-use Rattle.acts.specs.Coherent.{Coherent}
-use Rattle.acts.specs.Releases.{Trip, isSet}
+use Rattle.guarantees.specs.Coherent.{Coherent}
+use Rattle.guarantees.specs.Releases.{Trip, isSet}
 use Rattle.plain.specs.Plain.{plainSupply, grammar, trips, stepOf, releasesOf}
 use Rattle.plain.specs.Unaddressed.{unaddressed}
 use Rattle.slots.specs.declared.Rack.{Rack}

@@ -12,9 +12,9 @@ use Rattle.wire.proofs.Demand3.{demand3}
 use Rattle.supply.specs.declared.Supply.{Supply}
 use Rattle.supply.specs.declared.Act.the-variants.{Obey}
 use Rattle.settings.specs.Lawful.{Lawful}
-use Rattle.acts.specs.Releases.{Trip, isSet}
-use Rattle.acts.proofs.Keeps.{fresh-lawful, performed-lawful}
-use Rattle.acts.proofs.Trips.{shut, held, frees}
+use Rattle.guarantees.specs.Releases.{Trip, isSet}
+use Rattle.guarantees.proofs.Keeps.{fresh-lawful, performed-lawful}
+use Rattle.guarantees.proofs.Trips.{shut, held, frees}
 use Rattle.asks.specs.declared.Asks.{Asks}
 use Rattle.asks.specs.declared.Asks.the-variants.{Select, BadSelect, Everyone, Nobody, One, Error}
 use Rattle.command.specs.Lines.{heardOf}

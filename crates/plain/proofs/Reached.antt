@@ -20,8 +20,8 @@ use Rattle.wire.proofs.Entries.{shares-hold}
 use Rattle.supply.specs.declared.Supply.{Supply}
 use Rattle.supply.specs.declared.Act.the-variants.{Lines, Sample, Obey, Nothing}
 use Rattle.supply.specs.State.{fresh}
-use Rattle.acts.specs.Coherent.{Listed, Coherent, CheckedOrder, Checked}
-use Rattle.acts.proofs.Coherent.{fresh-coherent, performed-coherent}
+use Rattle.guarantees.specs.Coherent.{Listed, Coherent, CheckedOrder, Checked}
+use Rattle.guarantees.proofs.Coherent.{fresh-coherent, performed-coherent}
 use Rattle.parameters.specs.Parameters.{parameterOf}
 use Rattle.parameters.proofs.Bounds.{switch-most}
 use Rattle.asks.specs.declared.Asks.{Asks}

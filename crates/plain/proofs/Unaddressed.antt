@@ -6,7 +6,7 @@ use lib.ListN.{drop}
 use Rattle.wire.specs.Wire.{Entry, field, line}
 use Rattle.supply.specs.declared.Supply.{Supply}
 use Rattle.acts.specs.Acts.{performed}
-use Rattle.acts.specs.Releases.{Trip, releases}
+use Rattle.guarantees.specs.Releases.{Trip, releases}
 use Rattle.supply.specs.State.{fresh}
 use Rattle.field.specs.Fields.{actOf}
 use Rattle.plain.specs.Plain.{stepOf, replyTo, releasesOf}

@@ -10,7 +10,7 @@ use Rattle.supply.specs.declared.Act.the-variants.{Obey}
 use Rattle.supply.specs.State.{fresh}
 use Rattle.supply.specs.Flt.{onOf}
 use Rattle.acts.specs.Acts.{performed}
-use Rattle.acts.specs.Releases.{Trip, isSet, releases}
+use Rattle.guarantees.specs.Releases.{Trip, isSet, releases}
 use Rattle.asks.specs.declared.Asks.{Asks}
 use Rattle.asks.specs.declared.Asks.the-variants.{Select, BadSelect, Everyone, Nobody, One, Error}
 use Rattle.command.specs.Lines.{heardOf}

@@ -10,7 +10,7 @@ use Rattle.wire.specs.Entries.{SharesHold}
 use Rattle.wire.specs.Share.{shareOf}
 use Rattle.wire.specs.Rack.{plain}
 use Rattle.supply.specs.declared.Act.the-variants.{Obey}
-use Rattle.acts.specs.Coherent.{Coherent, Checked}
+use Rattle.guarantees.specs.Coherent.{Coherent, Checked}
 use Rattle.asks.specs.declared.Asks.{Asks}
 use Rattle.asks.specs.declared.Asks.the-variants.{Select, BadSelect, Everyone, Nobody, One, Error}
 use Rattle.command.specs.Lines.{heardOf}

@@ -6,7 +6,7 @@ use lib.ListN.{drop}
 use Rattle.wire.specs.Wire.{Entry, field, line}
 use Rattle.wire.specs.Rack.{plain}
 use Rattle.supply.specs.declared.Supply.{Supply}
-use Rattle.acts.specs.Releases.{Trip}
+use Rattle.guarantees.specs.Releases.{Trip}
 use Rattle.plain.specs.Plain.{stepOf, replyTo, releasesOf, plainSupply}
 
 -- the entry without its address, which is the first byte of a field's payload; a line has none and stays as it is

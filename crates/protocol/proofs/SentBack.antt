@@ -27,7 +27,7 @@ use Rattle.codes.specs.Codes.{orderCode}
 use Rattle.orders.specs.Orders.{remote, remoteBy, ordered}
 use Rattle.acts.specs.Acts.{codeOf, clearingOrder, clearingAct, acted, performed}
 use Rattle.answers.specs.Answers.{answerOf}
-use Rattle.acts.proofs.Keeps.{admissible-accepted}
+use Rattle.guarantees.proofs.Keeps.{admissible-accepted}
 use Rattle.asks.specs.declared.Asks.the-variants.{One}
 use Rattle.parameters.specs.Parameters.{number, isEmpty, readAs, parameterOf}
 use Rattle.asks.specs.Words.{set, toOne, askedWith, askedBy}

@@ -28,10 +28,10 @@ use Rattle.events.specs.Events.{turnedOn, disarmed, pressed, turned}
 use Rattle.events.proofs.Cases.{lines-law, disarm-law}
 use Rattle.codes.specs.Codes.{orderCode}
 use Rattle.orders.specs.Orders.{remote, remoteBy, outDone, fldDone, ordered}
 use Rattle.acts.specs.Acts.{codeOf, clearingQuery, clearingOrder, clearingAct, acted, closed, performed}
-use Rattle.acts.specs.Feve.{clearsFeve, gains, FeveGain, FeveCleared}
-use Rattle.acts.proofs.Clearing.{clearing-acts}
+use Rattle.guarantees.specs.Feve.{clearsFeve, gains, FeveGain, FeveCleared}
+use Rattle.guarantees.proofs.Clearing.{clearing-acts}
 use Rattle.acts.proofs.Idle.{cleared-flt, unmoved, query-done}
 
 -- FEVE?, CLS and RST end with FEVE 0
 module _ (m : ℕ) (s : Supply) where

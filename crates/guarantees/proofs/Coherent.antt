@@ -24,8 +24,8 @@ use Rattle.samples.specs.Samples.{reachesOvp, tripsFold, sampled}
 use Rattle.events.specs.Events.{falls, linesChanged, turnedOn, disarmed, pressed, turned}
 use Rattle.events.proofs.Cases.{lines-law, disarm-law}
 use Rattle.orders.specs.Orders.{remote, remoteBy, outDone, fldDone, reset, ordered}
 use Rattle.acts.specs.Acts.{codeOf, clearingQuery, clearingAct, cleared, acted, closed, performed}
-use Rattle.acts.specs.Coherent.{Listed, Agreeing, Coherent, CheckedOrder, Checked}
+use Rattle.guarantees.specs.Coherent.{Listed, Agreeing, Coherent, CheckedOrder, Checked}
 
 -- without a FOLD trip, ARMED has no condition to meet
 untripped : {mode lines : ℕ} {armed : Bool} → mode ≤ 2 → Listed lines → Agreeing mode lines false armed
