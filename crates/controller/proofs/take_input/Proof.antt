@@ -14,7 +14,7 @@ use Rattle.controller.proofs.take_input.Lts as lts
 use Rattle.base.proofs.part_from.Reads as part-from-reads
 use Rattle.base.proofs.part_to.Reads as part-to-reads
 use Rattle.console.proofs.write_out.Reads as write-out-reads
-use Rattle.controller.proofs.cycle.Reads as cycle-reads
+use Rattle.cycles.proofs.cycle.Reads as cycle-reads
 use Rattle.stream.proofs.no_block.Reads as no-block-reads
 use Rattle.stream.proofs.refill.Reads as refill-reads
 use Rattle.stream.proofs.goes_on.Reads as goes-on-reads

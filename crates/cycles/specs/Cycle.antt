@@ -10,7 +10,7 @@ use Rattle.console.specs.Mendable.{mendable}
 use Rattle.slots.specs.declared.Rack.{Rack}
 use Rattle.slots.specs.View.{viewOf, Able}
 use Rattle.engine.specs.Engine.{ran, fieldsOn, fullAt}
-use Rattle.controller.specs.declared.CycleOutcome.{CycleOutcome}
+use Rattle.cycles.specs.declared.CycleOutcome.{CycleOutcome}
 
 -- the fields of the bytes s are worked in turn, up to a refusal or until what they say reaches 7,680 of the buffer's
 -- 8,192 bytes

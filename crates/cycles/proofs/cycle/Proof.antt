@@ -1,11 +1,11 @@
 -- `cycle` meets its contract.
 use native.Mathlib.Omega.{arith}
-use Rattle.controller.proofs.Handed.{handed-is}
+use Rattle.cycles.proofs.Handed.{handed-is}
 use borrow.Author.Needs.{needs}
-use Rattle.controller.proofs.cycle.Statement.{statement}
-use Rattle.controller.proofs.cycle.Tie as tie
-use Rattle.controller.proofs.cycle.Reads as reads
-use Rattle.controller.proofs.cycle.Lts as lts
+use Rattle.cycles.proofs.cycle.Statement.{statement}
+use Rattle.cycles.proofs.cycle.Tie as tie
+use Rattle.cycles.proofs.cycle.Reads as reads
+use Rattle.cycles.proofs.cycle.Lts as lts
 use Rattle.console.proofs.waits.Reads as waits-reads
 use Rattle.engine.proofs.work.Reads as work-reads
 
