@@ -48,10 +48,10 @@ pub fn take_event(u: Setup, s: Supply, b: &[u8]) -> Evented
     if !serial::has_supply(u, a) {
         return event_left(s, 0, 6);
     }
-    if !field::values_fit(tag, p) {
+    if !payloads::values_fit(tag, p) {
         return event_left(s, 0, 7);
     }
-    let done = acts::perform(serial::model_at(u, a), s, field::act_of(tag, p));
+    let done = acts::perform(serial::model_at(u, a), s, payloads::act_of(tag, p));
     let supply = done.supply;
     event_left(supply, used, 0)
 }
@@ -63,7 +63,7 @@ pub fn sample_model(u: Setup, b: &[u8], left: usize) -> u8
     if left != 0 {
         return 255;
     }
-    if field::is_sample(b) {
+    if payloads::is_sample(b) {
         serial::model_at(u, field::byte_at(b, 3))
     } else {
         255
@@ -74,7 +74,7 @@ pub fn sample_model(u: Setup, b: &[u8], left: usize) -> u8
 pub fn take_sample(model: u8, s: Supply, b: &[u8]) -> Supply
     ensures { λ r. ⌜ r ≡ performed model s (Sample (pairAt (now (b .entry)) 4) (pairAt (now (b .entry)) 6)) ⌝ }
 {
-    let counts = field::sample_counts(b);
+    let counts = payloads::sample_counts(b);
     acts::sampled(model, s, counts.volts, counts.amps)
 }
 

@@ -12,7 +12,7 @@ use Rattle.addressed.proofs.sample_model.Tie as tie
 use Rattle.addressed.proofs.sample_model.Reads as reads
 use Rattle.addressed.proofs.sample_model.Lts as lts
 use Rattle.field.proofs.byte_at.Reads as byte-at-reads
-use Rattle.field.proofs.is_sample.Reads as is-sample-reads
+use Rattle.payloads.proofs.is_sample.Reads as is-sample-reads
 use Rattle.serial.proofs.model_at.Reads as model-at-reads
 
 returns : tie.Need-returns

@@ -17,11 +17,11 @@ use Rattle.addressed.proofs.take_event.Reads as reads
 use Rattle.addressed.proofs.take_event.Lts as lts
 use Rattle.acts.proofs.perform.Reads as perform-reads
 use Rattle.addressed.proofs.event_left.Reads as event-left-reads
-use Rattle.field.proofs.act_of.Reads as act-of-reads
+use Rattle.payloads.proofs.act_of.Reads as act-of-reads
 use Rattle.field.proofs.byte_at.Reads as byte-at-reads
 use Rattle.field.proofs.payload.Reads as payload-reads
 use Rattle.field.proofs.read_header.Reads as read-header-reads
-use Rattle.field.proofs.values_fit.Reads as values-fit-reads
+use Rattle.payloads.proofs.values_fit.Reads as values-fit-reads
 use Rattle.serial.proofs.has_supply.Reads as has-supply-reads
 use Rattle.serial.proofs.model_at.Reads as model-at-reads
 

@@ -6,7 +6,7 @@ use Rattle.addressed.proofs.take_sample.Tie as tie
 use Rattle.addressed.proofs.take_sample.Reads as reads
 use Rattle.addressed.proofs.take_sample.Lts as lts
 use Rattle.acts.proofs.sampled.Reads as sampled-reads
-use Rattle.field.proofs.sample_counts.Reads as sample-counts-reads
+use Rattle.payloads.proofs.sample_counts.Reads as sample-counts-reads
 
 sample-counts-requires : tie.Need-sample-counts-requires
 sample-counts-requires c κs = search needs

@@ -1,11 +1,11 @@
 -- `sample_counts` meets its contract.
 use mathlib.Core.Path.{refl}
 use borrow.Author.Needs.{needs}
-use Rattle.field.proofs.sample_counts.Statement.{statement}
-use Rattle.field.proofs.sample_counts.Tie as tie
-use Rattle.field.proofs.sample_counts.Reads as reads
-use Rattle.field.proofs.sample_counts.Lts as lts
+use Rattle.payloads.proofs.sample_counts.Statement.{statement}
+use Rattle.payloads.proofs.sample_counts.Tie as tie
+use Rattle.payloads.proofs.sample_counts.Reads as reads
+use Rattle.payloads.proofs.sample_counts.Lts as lts
 use Rattle.field.proofs.pair_at.Reads as pair-at-reads
 
 pair-at-requires : tie.Need-pair-at-requires
 pair-at-requires c κs = search needs

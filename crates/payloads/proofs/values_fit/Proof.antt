@@ -1,9 +1,9 @@
--- `field::values_fit` meets its contract.
+-- `payloads::values_fit` meets its contract.
 use borrow.Author.Needs.{needs}
 use borrow.Author.Tests.{ne-eqb}
 use Rattle.field.specs.Fields.{valuesFit}
-use Rattle.field.proofs.values_fit.Statement.{statement}
-use Rattle.field.proofs.values_fit.Tie as tie
+use Rattle.payloads.proofs.values_fit.Statement.{statement}
+use Rattle.payloads.proofs.values_fit.Tie as tie
 
 pub values-fit-spec : {M : Type 1} → statement M
 unfolding valuesFit

@@ -1,8 +1,8 @@
--- `field::press_of` meets its contract.
+-- `payloads::press_of` meets its contract.
 use borrow.Author.Tests.{ne-eqb}
 use Rattle.field.specs.Fields.{pressOf}
-use Rattle.field.proofs.press_of.Statement.{statement}
-use Rattle.field.proofs.press_of.Tie as tie
+use Rattle.payloads.proofs.press_of.Statement.{statement}
+use Rattle.payloads.proofs.press_of.Tie as tie
 
 pub press-of-spec : {M : Type 1} → statement M
 unfolding pressOf

@@ -1,9 +1,9 @@
--- `field::act_of` meets its contract.
+-- `payloads::act_of` meets its contract.
 use borrow.Author.Needs.{needs}
 use borrow.Author.Tests.{ne-eqb}
 use Rattle.field.specs.Fields.{actOf}
-use Rattle.field.proofs.act_of.Statement.{statement}
-use Rattle.field.proofs.act_of.Tie as tie
+use Rattle.payloads.proofs.act_of.Statement.{statement}
+use Rattle.payloads.proofs.act_of.Tie as tie
 
 pub act-of-spec : {M : Type 1} → statement M
 unfolding actOf

@@ -1,14 +1,14 @@
 -- `is_sample` meets its contract.
 use mathlib.Core.Path.{refl}
 use borrow.Author.Tests.{lt-ltb, le-ltb}
 use Rattle.field.specs.Fields.{isSample}
 use borrow.Author.Needs.{needs}
-use Rattle.field.proofs.is_sample.Statement.{statement}
-use Rattle.field.proofs.is_sample.Tie as tie
-use Rattle.field.proofs.is_sample.Reads as reads
-use Rattle.field.proofs.is_sample.Lts as lts
+use Rattle.payloads.proofs.is_sample.Statement.{statement}
+use Rattle.payloads.proofs.is_sample.Tie as tie
+use Rattle.payloads.proofs.is_sample.Reads as reads
+use Rattle.payloads.proofs.is_sample.Lts as lts
 use Rattle.field.proofs.byte_at.Reads as byte-at-reads
 use Rattle.field.proofs.pair_at.Reads as pair-at-reads
 
 returns : tie.Need-returns
 unfolding isSample

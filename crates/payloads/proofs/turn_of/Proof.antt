@@ -1,8 +1,8 @@
--- `field::turn_of` meets its contract.
+-- `payloads::turn_of` meets its contract.
 use borrow.Author.Tests.{ne-eqb}
 use Rattle.field.specs.Fields.{turnOf}
-use Rattle.field.proofs.turn_of.Statement.{statement}
-use Rattle.field.proofs.turn_of.Tie as tie
+use Rattle.payloads.proofs.turn_of.Statement.{statement}
+use Rattle.payloads.proofs.turn_of.Tie as tie
 
 pub turn-of-spec : {M : Type 1} → statement M
 unfolding turnOf
