@@ -127,7 +127,8 @@ fn put_fena(s: Supply, b: u8) -> Supply
     t
 }
 
-// What an accepted order does. Its figure, if it has one, fits in 32 bits, so the low 32 bits are all of it.
+// What an accepted order does. An accepted figure fits in 32 bits, so its low 32 bits are all of it; `order_done` gives
+// figures to `set_done`, and their arm only completes the match.
 fn carried_out(model: u8, s: Supply, o: Order) -> Supply
     requires { ⌜ orderCode model s o ≡ 0 ⌝ }
     ensures { λ r. ⌜ r ≡ ordered model s o ⌝ }
@@ -158,7 +159,8 @@ pub fn set_done(model: u8, s: Supply, t: Target, n: u64) -> Outcome
     Outcome { code, supply: s }
 }
 
-// An order: its error code, and the supply after it. A figure, as most orders are, takes the shorter path.
+// An order: its error code, and the supply after it. It covers figures too, though `acts` gives those to `set_done`
+// itself.
 pub fn order_done(model: u8, s: Supply, o: Order) -> Outcome
     ensures { λ r. ⌜ (r .code ≡ orderCode model s o) × (r .supply ≡ afterOrder model s o) ⌝ }
 {

@@ -1,5 +1,5 @@
 -- `set_done` meets its contract.
-use mathlib.Core.Path.{_≡_, sym, _∙_}
+use mathlib.Core.Path.{sym, _∙_}
 use Rattle.codes.specs.Codes.{orderCode}
 use Rattle.orders.proofs.Accepted.{stored, refused, accepted}
 use borrow.Author.Needs.{needs}
