@@ -1,12 +1,12 @@
 -- Acts that need not go through all three stages: a refused order changes nothing, and FEVE gains nothing from a figure
 -- for a setting or from a query.
-use mathlib.Core.Path.{_≡_, refl, sym}
+use mathlib.Core.Path.{_≡_, refl, sym, _∙_}
 use mathlib.Core.Bool.{Bool, true, false, true≢false}
 use Prim.Native.Nat.{ℕ}
 use lib.Dec.{eqb}
 use borrow.Author.Tests.{ne-eqb}
 use Rattle.base.specs.Choice.{pick}
-use Rattle.base.proofs.Choice.{pick-false}
+use Rattle.base.proofs.Choice.{pick-false, pick-keeps}
 use Rattle.supply.specs.declared.Supply.{Supply}
 use Rattle.supply.specs.declared.Target.{Target}
 use Rattle.supply.specs.declared.Target.the-variants.{Pv, Pc, Ovp, Uvl}
@@ -65,14 +65,12 @@ module _ (m : ℕ) (s : Supply) where
   unfolding performed
   unmoved a n = pick-false _ _ _ (ne-eqb (codeOf m s a) 0 n)
 
-  -- a figure for a setting, accepted or refused, ends as it was judged
+  -- a figure for a setting, accepted or refused, moves no bit of FLT, so it needs none of the later stages
   pub set-closed : (t : Target) (n : ℕ) → afterOrder m s (Set t n) ≡ performed m s (Obey (Set t n))
-  unfolding performed codeOf acted clearingAct clearingOrder afterOrder ordered
-  set-closed t n = byCode (eqb (orderCode m s (Set t n)) 0)
-    where
-      byCode : (b : Bool) → pick b (remoteBy t (withSetting t n s)) s ≡ pick b (settled s (remoteBy t (withSetting t n s))) s
-      byCode true = sym (settled-idle s _ (set-flt t n s))
-      byCode false = refl
+  unfolding clearingOrder afterOrder ordered
+  set-closed t n =
+      let same = pick-keeps (λ (x : Supply). fltOf x ≡ fltOf s) (eqb (orderCode m s (Set t n)) 0) _ _ (set-flt t n s) refl in
+      sym (settled-idle s (afterOrder m s (Set t n)) same) ∙ order-closed (Set t n)
 
   -- a query does no more than clear FEVE, and only FEVE? does that
   pub query-done : (q : Query) → cleared (clearingQuery q) s ≡ performed m s (Ask q)

@@ -1,6 +1,7 @@
 // Layer supply.
 // What an order does to a supply: its error code, and its effect if it is accepted.
 ghost use mathlib.Core.Path.{_≡_};
+ghost use Prim.Native.Nat.{_%_};
 ghost use lib.Dec.{eqb};
 ghost use Rattle.base.specs.Choice.{pick};
 ghost use Rattle.models.specs.Models.{limitsOf};
@@ -29,11 +30,12 @@ fn to_remote(s: Supply) -> Supply
     t
 }
 
-// Stores an accepted figure; PV and PC also take remote control. One match does both, so that the record is
-// written once.
-fn put_setting(s: Supply, t: Target, x: u32) -> Supply
-    ensures { λ r. ⌜ r ≡ remoteBy t (withSetting t x s) ⌝ }
+// Stores the low 32 bits of a figure, which are all of it if it is accepted; PV and PC also take remote control. One
+// match does both, so that the record is written once.
+fn put_setting(s: Supply, t: Target, n: u64) -> Supply
+    ensures { λ r. ⌜ r ≡ remoteBy t (withSetting t (n % 0x100000000) s) ⌝ }
 {
+    let x = (n % 0x1_0000_0000) as u32;
     let mode = remote_mode(s.mode);
     let mut r = s;
     match t {
@@ -127,14 +129,13 @@ fn put_fena(s: Supply, b: u8) -> Supply
     t
 }
 
-// What an accepted order does. An accepted figure fits in 32 bits, so its low 32 bits are all of it; `order_done` gives
-// figures to `set_done`, and their arm only completes the match.
+// What an accepted order does. `order_done` gives figures to `set_done`, so their arm only completes the match.
 fn carried_out(model: u8, s: Supply, o: Order) -> Supply
     requires { ⌜ orderCode model s o ≡ 0 ⌝ }
     ensures { λ r. ⌜ r ≡ ordered model s o ⌝ }
 {
     match o {
-        Order::Set(t, n) => put_setting(s, t, (n % 0x1_0000_0000) as u32),
+        Order::Set(t, n) => put_setting(s, t, n),
         Order::Ovm => ovm_done(model, s),
         Order::Out(on) => put_out(s, on),
         Order::Fld(on) => put_fld(s, on),
@@ -153,7 +154,7 @@ pub fn set_done(model: u8, s: Supply, t: Target, n: u64) -> Outcome
 {
     let code = codes::set_code(model, s, t, n);
     if code == 0 {
-        let supply = put_setting(s, t, (n % 0x1_0000_0000) as u32);
+        let supply = put_setting(s, t, n);
         return Outcome { code, supply };
     }
     Outcome { code, supply: s }

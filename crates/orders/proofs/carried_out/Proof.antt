@@ -9,9 +9,6 @@ use Rattle.orders.proofs.carried_out.Tie as tie
 enum-known-o : tie.Need-enum-known-o
 enum-known-o c = search needs
 
-cast-put-setting : tie.Need-cast-put-setting
-cast-put-setting c = search needs
-
 put-setting-requires : tie.Need-put-setting-requires
 put-setting-requires c κs = search needs
 
@@ -102,7 +99,6 @@ carried-out-spec =
     tie.close
     (tie.spec
     enum-known-o
-    cast-put-setting
     put-setting-requires
     enum-told
     ovm-done-requires

@@ -5,6 +5,9 @@ use borrow.Author.Needs.{needs}
 use Rattle.orders.proofs.put_setting.Statement.{statement}
 use Rattle.orders.proofs.put_setting.Tie as tie
 
+cast-x : tie.Need-cast-x
+cast-x c = search needs
+
 remote-mode-requires : tie.Need-remote-mode-requires
 remote-mode-requires c κs = search needs
 
@@ -40,6 +43,7 @@ pub put-setting-spec : {M : Type 1} → statement M
 put-setting-spec =
     tie.close
     (tie.spec
+    cast-x
     remote-mode-requires
     enum-told
     enum-told-2

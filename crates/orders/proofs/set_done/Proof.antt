@@ -9,9 +9,6 @@ use Rattle.orders.proofs.set_done.Tie as tie
 set-code-requires : tie.Need-set-code-requires
 set-code-requires c κs = search needs
 
-cast-put-setting : tie.Need-cast-put-setting
-cast-put-setting c = search needs
-
 put-setting-requires : tie.Need-put-setting-requires
 put-setting-requires c κs = search needs
 
@@ -29,4 +26,4 @@ returns-2 c =
     (code, refused _ _ _ code (c .if1 .left))
 
 pub set-done-spec : {M : Type 1} → statement M
-set-done-spec = tie.close (tie.spec set-code-requires cast-put-setting put-setting-requires returns returns-2)
+set-done-spec = tie.close (tie.spec set-code-requires put-setting-requires returns returns-2)
