@@ -8,7 +8,7 @@ use std::time::{Duration, Instant};
 use crate::generate::{generate, Draw, Input};
 use crate::outside;
 use crate::program;
-use crate::rack::Rack;
+use crate::rack::{Rack, LEAST_ROOM, SLOTS};
 use crate::script;
 use crate::share::{self, Tally};
 
@@ -232,6 +232,76 @@ pub fn with_itself(count: u64, seed: u64) -> Result<Tally, String> {
     Ok(tally)
 }
 
+/// What service messages generated inputs bring, and how SEVE came to them.
+#[derive(Debug, Default)]
+pub struct Service {
+    /// Fields after which no supply spoke, one, two, and so on up to all of a rack.
+    pub speakers: [usize; SLOTS + 1],
+    /// Fields of tags 1 to 5 with a message.
+    pub tags: [usize; 6],
+    /// How often each bit got into a supply's SEVE.
+    pub bits: [usize; 8],
+    /// Messages by what filled: FEVE alone, SEVE alone, both.
+    pub registers: [usize; 3],
+    /// Messages of a register that filled while the supply's other one was not empty.
+    pub while_other_stands: usize,
+    /// Messages of slots that were not selected at the end of a serial field.
+    pub not_selected: usize,
+    /// Serial fields that raise something and clear it, or clear something and raise it again: worked
+    /// byte by byte, they would bring more messages.
+    pub hidden: usize,
+    /// The most bytes that a field said.
+    pub longest: usize,
+}
+
+pub fn service_counts(count: u64, seed: u64) -> Service {
+    let mut service = Service::default();
+    for number in 0..count {
+        let input = generate(input_seed(seed, number));
+        let Ok(mut rack) = Rack::fit(&input.parts[0]) else { continue };
+        for field in &input.parts[1..] {
+            let before = rack.clone();
+            let Ok((_, said)) = rack.call(field, LEAST_ROOM) else { continue };
+            service.note(field, &before, &rack, &said);
+        }
+    }
+    service
+}
+
+fn messages_in(said: &[u8]) -> usize {
+    said.iter().filter(|byte| **byte == b'!').count()
+}
+
+impl Service {
+    fn note(&mut self, field: &[u8], before: &Rack, after: &Rack, said: &[u8]) {
+        let messages = messages_in(said);
+        self.speakers[messages] += 1;
+        self.tags[usize::from(field[0])] += usize::from(messages > 0);
+        self.longest = self.longest.max(said.len());
+        for (slot, (was, is)) in before.slots.iter().zip(&after.slots).enumerate() {
+            let (Some(was), Some(is)) = (was, is) else { continue };
+            let risen = is.seve & !was.seve;
+            (0..8).for_each(|bit| self.bits[bit] += usize::from(risen >> bit & 1));
+            let filled = (was.feve == 0 && is.feve != 0, was.seve == 0 && is.seve != 0);
+            match filled {
+                (false, false) => continue,
+                (true, false) => self.registers[0] += 1,
+                (false, true) => self.registers[1] += 1,
+                (true, true) => self.registers[2] += 1,
+            }
+            let stands = (filled.0 && was.seve != 0) || (filled.1 && was.feve != 0);
+            self.while_other_stands += usize::from(stands);
+            self.not_selected += usize::from(field[0] == 1 && after.selected != Some(slot));
+        }
+        if field[0] == 1 {
+            let mut rack = before.clone();
+            let byte = |byte: &u8| rack.call(&[1, 0, 1, *byte], LEAST_ROOM).unwrap_or_default().1;
+            let apart: Vec<u8> = field[3..].iter().flat_map(byte).collect();
+            self.hidden += usize::from(messages_in(&apart) > messages);
+        }
+    }
+}
+
 /// How often each reply came in generated inputs, to show what they reach.
 pub fn reply_counts(count: u64, seed: u64) -> Vec<(String, usize)> {
     let mut counts = std::collections::BTreeMap::new();
@@ -244,9 +314,12 @@ pub fn reply_counts(count: u64, seed: u64) -> Vec<(String, usize)> {
     counts.into_iter().collect()
 }
 
-/// Replies by name, with all figures and all bytes as one kind each.
+/// Replies by name, with all figures, all bytes, all answers of STT? and all messages as one kind
+/// each.
 fn reply_name(line: &str) -> &str {
     match line.split('$').next().unwrap_or("") {
+        word if word.starts_with('!') => "a message",
+        word if word.starts_with("MV(") => "a status",
         word if word.contains('.') => "a figure",
         word @ ("00" | "CC") => word,
         word if word.len() == 2 && u8::from_str_radix(word, 16).is_ok() => "a byte above 00",

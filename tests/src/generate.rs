@@ -77,37 +77,63 @@ impl Input {
 }
 
 /// Every query, in the order in which a final check asks them.
-const QUERIES: [&str; 14] = [
+const QUERIES: [&str; 18] = [
     "PV?", "PC?", "OVP?", "UVL?", "MV?", "MC?", "OUT?", "FLD?", "AST?", "RMT?", "MODE?", "FLT?",
-    "FENA?", "FEVE?",
+    "STT?", "STAT?", "FENA?", "FEVE?", "SENA?", "SEVE?",
 ];
 
 /// Order words, the more important ones more than once.
-const ORDERS: [&str; 22] = [
+const ORDERS: [&str; 24] = [
     "PV", "PV", "PV", "PC", "PC", "OVP", "OVP", "OVP", "UVL", "UVL", "OVM", "OUT", "OUT", "OUT",
-    "FLD", "FLD", "AST", "RMT", "RMT", "FENA", "CLS", "RST",
+    "FLD", "FLD", "AST", "RMT", "RMT", "FENA", "SENA", "SENA", "CLS", "RST",
 ];
 
 /// Lines with something wrong or unusual about them.
 #[rustfmt::skip]
-const ODD_LINES: [&str; 73] = [
+const ODD_LINES: [&str; 84] = [
     "", " ", "PV", "PV ", "PV  5", "PV 5 ", "PV x", " PV 5", "PV? ", "PV? 1", "PV?1", "PV .",
     "PV ..", "PV 1.2.3", "PV .5", "PV 5.", "PV +1", "PV -1", "PV 1e1", "PV 0000000000001",
     "PV 000000000001", "PV 999999999999", "PV 99999999999.", "PV .00009999999", "PV\t5", "PC",
     "PC x", "PC 1,5", "OVP", "OVP x", "UVL", "UVL x", "OVM 1", "OVM ", "OUT", "OUT 2", "OUT 01",
     "OUT ON", "OUT 1 ", "FLD 2", "FLD", "AST 9", "AST", "RMT 3", "RMT", "RMT LOC", "RMT 02",
     "FENA", "FENA 1", "FENA 1G", "FENA 123", "FENA ff", "CLS 0", "CLS ", "RST 1", "RST ", "IDN?",
-    "STT?", "SAV", "GSAV", "GRCL", "ADR?", "OUTP 1", "PVX 5", "$00", "$", "$$$", "$24", "PV 5$1",
+    "SENA", "SENA ", "SENA 1", "SENA 1G", "SENA 123", "SENA f7", "SENA? 1", "SEVE? 0", "STT? 1",
+    "STAT", "STT", "SEVE", "SAV", "GSAV", "GRCL", "ADR?", "OUTP 1", "PVX 5", "$00", "$", "$$$", "$24", "PV 5$1",
     "PV?$E5$EF", "MODE", "MV 1", "PV?$E5$83",
 ];
 
 /// Lines to an address or to everyone with something wrong or unusual about them.
 #[rustfmt::skip]
-const ODD_CALLS: [&str; 24] = [
+const ODD_CALLS: [&str; 25] = [
     "ADR", "ADR ", "ADR x", "ADR 006", "ADR 5.", "ADR 31", "ADR 99", "ADR 30", "ADR 00", "ADR  6",
     "ADR 6 ", "ADR -1", "GPV", "GPV x", "GPV 1.2.3", "GPC", "GPC ", "GOUT", "GOUT 2", "GOUT ON",
-    "GRST 1", "GRST ", "GPV 999999999999", "GPVX 5",
+    "GRST 1", "GRST ", "GPV 999999999999", "GPVX 5", "GSENA 8F",
 ];
+
+/// Orders that let something rise in FLT or STAT, each behind the one that makes it ready.
+const RAISING: [(&str, &str); 6] = [
+    ("RMT 1", "RMT 0"),
+    ("RMT 2", "RMT 0"),
+    ("OUT 1", "OUT 0"),
+    ("OUT 0", "OUT 1"),
+    ("PC 1", "PC 0"),
+    ("PC 0", "PC 1"),
+];
+
+/// Bits of STAT that are enabled for certain, beside any others.
+const ENABLED: [u8; 4] = [0, 0x80, 0x8F, 0x8F];
+
+/// Serial fields that raise and clear the event registers, in either order.
+#[rustfmt::skip]
+const RAISED_AND_CLEARED: [&str; 14] = [
+    "RMT 1\rRMT 0\rCLS\r", "RMT 0\rSEVE?\r", "OUT 1\rOUT 0\rCLS\r", "OUT 0\rFEVE?\r",
+    "SEVE?\rRMT 0\r", "FEVE?\rOUT 0\r", "RMT 0\rRST\r", "OUT 0\rGRST\r", "CLS\rRMT 0\r",
+    "FEVE?\rSEVE?\r", "OUT 1\rOUT 0\r", "RMT 1\rRMT 0\r", "CLS\rRMT 1\rRMT 0\r",
+    "PC 0\rPC 1\rSEVE?\r",
+];
+
+/// Globals that let something rise in many supplies at once, or clear it.
+const GLOBALS: [&str; 7] = ["GPC 0", "GPC 1", "GPC 1", "GOUT 0", "GOUT 1", "GOUT 1", "GRST"];
 
 struct Maker {
     draw: Draw,
@@ -173,6 +199,9 @@ impl Maker {
                 self.set_up(slot);
             }
         }
+        if self.fitted.len() == SLOTS && self.draw.percent(60) {
+            self.all_slots_by_a_global();
+        }
         while self.parts.len() <= wanted {
             self.step();
         }
@@ -193,7 +222,7 @@ impl Maker {
         self.say(&format!("PV {}", volts_text(volts)));
         self.say(&format!("PC {}", amperes_text(amperes)));
         self.flush();
-        for order in ["OVP", "UVL", "FLD 1", "FENA FE", "AST 1", "OUT 1", "RMT 0"] {
+        for order in ["OVP", "UVL", "FLD 1", "FENA FE", "SENA 8F", "AST 1", "OUT 1", "RMT 0"] {
             if self.draw.percent(50) {
                 match order {
                     "OVP" => self.say_number("OVP", Target::Ovp),
@@ -247,6 +276,7 @@ impl Maker {
             58..=60 => self.trip_and_release(),
             61..=62 => self.lines_come_and_go(),
             63..=65 => self.turn_on(),
+            66..=69 => self.call_for_service(),
             _ => self.event(),
         }
     }
@@ -386,6 +416,9 @@ impl Maker {
             "RMT" => format!("RMT {}", self.draw.pick(&[0, 0, 0, 1, 2])),
             "FENA" => {
                 format!("FENA {:02X}", self.draw.any() as u8 | self.draw.pick(&[0, 0x58, 0xFE]))
+            }
+            "SENA" => {
+                format!("SENA {:02X}", self.draw.any() as u8 | self.draw.pick(&[0, 0x83, 0x8F]))
             }
             "RST" if self.draw.percent(60) => "CLS".to_string(),
             _ => word.to_string(),
@@ -531,7 +564,7 @@ impl Maker {
         self.push(4, &[slot as u8, 0]);
         self.say(&format!("ADR {slot}"));
         self.say("OUT 1");
-        let habit = self.draw.pick(&["FLD 1", "AST 1", "FENA FF", "RMT 2", "CLS"]);
+        let habit = self.draw.pick(&["FLD 1", "AST 1", "FENA FF", "SENA FF", "RMT 2", "CLS"]);
         self.say(habit);
         self.flush();
         let over = self.draw.percent(50);
@@ -561,6 +594,102 @@ impl Maker {
         }
         self.say("FLT?");
         self.flush();
+    }
+
+    /// Registers enabled, and what makes supplies send messages: two after one field, all of them
+    /// by a global, and none where a field clears what it raises.
+    fn call_for_service(&mut self) {
+        let Some(slot) = self.focus() else { return };
+        self.flush();
+        match self.draw.below(6) {
+            0..=1 => self.two_slots_in_a_field(slot),
+            2 => self.all_slots_by_a_global(),
+            3 => self.flip_by_events(slot),
+            _ => self.raise_and_clear(slot),
+        }
+    }
+
+    /// Serial text as it is, in full fields.
+    fn send(&mut self, text: &str) {
+        text.as_bytes().chunks(16).for_each(|piece| self.push(1, piece));
+    }
+
+    /// Selects a slot and enables what its registers may gain, these bits of STAT among it.
+    fn enable(&mut self, slot: usize, least: u8) {
+        let sena = self.draw.any() as u8 | least;
+        self.send(&format!("ADR {slot}\rSENA {sena:02x}\r"));
+        if self.draw.percent(60) {
+            let fena = self.draw.pick(&["40", "FF", "fe"]);
+            self.send(&format!("FENA {fena}\r"));
+        }
+    }
+
+    /// A line kept from before ends for one slot, and in the same field another slot is selected,
+    /// mostly with an order of its own.
+    fn two_slots_in_a_field(&mut self, first: usize) {
+        let others: Vec<usize> =
+            self.fitted.iter().copied().filter(|slot| *slot != first).collect();
+        let second = if others.is_empty() { first } else { self.draw.pick(&others) };
+        let [other, one] = [second, first].map(|slot| {
+            let (ready, raising) = self.draw.pick(&RAISING);
+            let least = self.draw.pick(&ENABLED);
+            self.enable(slot, least);
+            self.send(&format!("{ready}\rCLS\r"));
+            raising
+        });
+        self.send(one);
+        if self.draw.percent(80) {
+            self.send(&format!("\rADR {second}\r{other}\r"));
+        } else {
+            self.send(&format!("\rADR {second}\r"));
+        }
+    }
+
+    fn all_slots_by_a_global(&mut self) {
+        let least = self.draw.pick(&ENABLED);
+        for slot in self.fitted.clone() {
+            self.enable(slot, least);
+        }
+        if self.draw.percent(70) {
+            self.send("GRST\rGOUT 1\r");
+        }
+        for _ in 0..2 + self.draw.below(4) {
+            let global = self.draw.pick(&GLOBALS);
+            let more = self.draw.pick(&["", "", "STT?\r", "SEVE?\r", "FEVE?\r"]);
+            self.send(&format!("{global}\r{more}"));
+        }
+    }
+
+    /// A live output in local mode, which knob, samples, keys and lines bring from CV to CC and back.
+    fn flip_by_events(&mut self, slot: usize) {
+        self.enable(slot, 0x0F);
+        self.push(4, &[slot as u8, 0]);
+        self.send("OUT 1\rRMT 0\r");
+        for _ in 0..3 + self.draw.below(5) {
+            let supply = self.supply(slot).clone();
+            let reading = supply.ampere_reading();
+            match self.draw.below(6) {
+                0..=2 => {
+                    let step = (reading + self.draw.between(0, 1) - supply.pc) as i32;
+                    self.push(3, &[&[slot as u8, 1], &step.to_be_bytes()[..]].concat());
+                }
+                3..=4 => self.sample(slot),
+                _ => self.press(slot),
+            }
+            if self.draw.percent(60) {
+                let line = self.draw.pick(&["SEVE?", "SEVE?", "CLS", "STAT?", "RMT 0"]);
+                self.send(&format!("{line}\r"));
+            }
+        }
+    }
+
+    fn raise_and_clear(&mut self, slot: usize) {
+        let least = self.draw.pick(&ENABLED);
+        self.enable(slot, least);
+        for _ in 0..2 + self.draw.below(5) {
+            let field = self.draw.pick(&RAISED_AND_CLEARED);
+            self.send(field);
+        }
     }
 
     fn release(&mut self, slot: usize) {

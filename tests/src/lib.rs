@@ -1,5 +1,5 @@
 //! An independent model of the rack controller, used to check the real one from outside.
-//! It is written from the scope paper alone and shares no code with the controller.
+//! It is written from the papers alone and shares no code with the controller.
 
 pub mod cases;
 pub mod compare;

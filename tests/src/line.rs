@@ -122,6 +122,10 @@ fn query(word: &[u8]) -> Option<Query> {
         b"FLT?" => Query::Flt,
         b"FENA?" => Query::Fena,
         b"FEVE?" => Query::Feve,
+        b"STT?" => Query::Stt,
+        b"STAT?" => Query::Stat,
+        b"SENA?" => Query::Sena,
+        b"SEVE?" => Query::Seve,
         _ => return None,
     })
 }
@@ -136,7 +140,8 @@ fn order(word: &[u8], parameter: Option<&[u8]>) -> Result<Said, Code> {
         b"FLD" => Order::Fld(switch(need(parameter)?)?),
         b"AST" => Order::Ast(switch(need(parameter)?)?),
         b"RMT" => Order::Rmt(mode(need(parameter)?)?),
-        b"FENA" => Order::Fena(two_hexadecimal_digits(need(parameter)?).ok_or(Code::C03)?),
+        b"FENA" => Order::Fena(byte(need(parameter)?)?),
+        b"SENA" => Order::Sena(byte(need(parameter)?)?),
         b"OVM" => return bare(parameter, Said::Order(Order::Ovm)),
         b"CLS" => return bare(parameter, Said::Order(Order::Cls)),
         b"RST" => return bare(parameter, Said::Order(Order::Rst)),
@@ -172,6 +177,10 @@ fn mode(parameter: &[u8]) -> Result<Mode, Code> {
         b"2" => Ok(Mode::LockedOut),
         _ => Err(Code::C03),
     }
+}
+
+fn byte(parameter: &[u8]) -> Result<u8, Code> {
+    two_hexadecimal_digits(parameter).ok_or(Code::C03)
 }
 
 /// Clause "ADR n": one or two digits, and no slot above 30.
@@ -228,6 +237,11 @@ pub fn reply(answer: Answer, checksummed: bool) -> Vec<u8> {
     let mut bytes = Vec::new();
     add_reply(&mut bytes, answer, checksummed);
     bytes
+}
+
+/// Appends the service message of this slot: it never has a checksum.
+pub fn add_message(replies: &mut Vec<u8>, slot: usize) {
+    write!(replies, "!{slot:02}\r").expect("a vector takes any bytes");
 }
 
 /// Appends such a reply to those that are there.

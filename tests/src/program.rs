@@ -3,7 +3,8 @@
 
 use crate::rack::{Rack, CUT_SHORT, LEAST_ROOM, NO_HEADER, SLOTS};
 
-/// What the program prints for this input: replies with LF for CR, then a refusal if there is one.
+/// What the program prints for this input: replies and messages with LF for CR, then a refusal if
+/// there is one.
 pub fn run(input: &[u8]) -> Vec<u8> {
     let (list, mut rest) = input.split_at(input.len().min(SLOTS));
     let mut printed = Vec::new();

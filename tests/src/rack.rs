@@ -44,7 +44,8 @@ impl Rack {
         })
     }
 
-    /// Takes the first field; returns the bytes used and the replies, or the refusal's number.
+    /// Takes the first field; returns the bytes used and the replies with the service messages behind
+    /// them, or the refusal's number.
     pub fn call(&mut self, bytes: &[u8], room: usize) -> Result<(usize, Vec<u8>), u8> {
         let mut replies = Vec::new();
         let used = self.call_with(bytes, room, &mut replies)?;
@@ -73,28 +74,49 @@ impl Rack {
         }
         let payload = rest.get(..length).ok_or(CUT_SHORT)?;
         match tag {
-            1 => payload.iter().for_each(|byte| self.hear(*byte, replies)),
-            _ => self.bring_event(*tag, payload)?,
+            1 => self.hear_all(payload, replies),
+            _ => self.bring_event(*tag, payload, replies)?,
         }
         Ok(3 + length)
     }
 
-    /// Tags 2 to 5: the address is judged before what follows it.
-    fn bring_event(&mut self, tag: u8, payload: &[u8]) -> Result<(), u8> {
-        let slot = self.slots.get_mut(usize::from(payload[0]));
+    /// Tags 2 to 5: the address is judged before what follows it. No other slot can send a message.
+    fn bring_event(&mut self, tag: u8, payload: &[u8], replies: &mut Vec<u8>) -> Result<(), u8> {
+        let address = usize::from(payload[0]);
+        let slot = self.slots.get_mut(address);
         let supply = slot.and_then(Option::as_mut).ok_or(NO_SUPPLY)?;
-        supply.event(event_of(tag, &payload[1..]).ok_or(BAD_VALUE)?);
+        let event = event_of(tag, &payload[1..]).ok_or(BAD_VALUE)?;
+        let before = empty_registers(supply);
+        supply.event(event);
+        if calls_for_service(before, supply) {
+            line::add_message(replies, address);
+        }
         Ok(())
     }
 
+    /// Tag 1: all replies, and then the service messages, lowest address first.
+    fn hear_all(&mut self, payload: &[u8], replies: &mut Vec<u8>) {
+        let mut reached = Reached::nobody();
+        payload.iter().for_each(|byte| self.hear(*byte, replies, &mut reached));
+        let slots = &mut reached.slots[..reached.count];
+        slots.sort_unstable();
+        for slot in slots.iter().map(|slot| usize::from(*slot)) {
+            if let (Some(before), Some(supply)) = (reached.before[slot], &self.slots[slot]) {
+                if calls_for_service(before, supply) {
+                    line::add_message(replies, slot);
+                }
+            }
+        }
+    }
+
     /// Clause "The shared line": one byte of the stream; a reply can come only at a CR.
-    fn hear(&mut self, byte: u8, replies: &mut Vec<u8>) {
+    fn hear(&mut self, byte: u8, replies: &mut Vec<u8>, reached: &mut Reached) {
         match byte {
             b'\r' => {
                 let reading = line::read(&self.kept, self.spoiled);
                 self.kept.clear();
                 self.spoiled = false;
-                self.end_line(reading, replies);
+                self.end_line(reading, replies, reached);
             }
             b'\n' => {}
             0x08 => {
@@ -105,35 +127,75 @@ impl Rack {
         }
     }
 
-    fn end_line(&mut self, reading: Reading, replies: &mut Vec<u8>) {
+    fn end_line(&mut self, reading: Reading, replies: &mut Vec<u8>, reached: &mut Reached) {
         match reading.whom {
-            Whom::Address => self.address(reading, replies),
-            Whom::Everyone => self.tell_everyone(reading),
-            Whom::Selected => self.tell_selected(reading, replies),
+            Whom::Address => self.address(reading, replies, reached),
+            Whom::Everyone => self.tell_everyone(reading, reached),
+            Whom::Selected => self.tell_selected(reading, replies, reached),
         }
     }
 
     /// Clause "ADR n": the slot selected so far replies to an error, and stays selected.
-    fn address(&mut self, reading: Reading, replies: &mut Vec<u8>) {
+    fn address(&mut self, reading: Reading, replies: &mut Vec<u8>, reached: &mut Reached) {
         if let Ok(Said::Select(slot)) = reading.said {
             self.selected = self.slots[slot].is_some().then_some(slot);
         }
-        self.tell_selected(reading, replies);
+        self.tell_selected(reading, replies, reached);
     }
 
     /// Clause "GPV, GPC, GOUT, GRST": each supply judges for itself and nobody replies.
-    fn tell_everyone(&mut self, reading: Reading) {
+    fn tell_everyone(&mut self, reading: Reading, reached: &mut Reached) {
         if reading.said.is_ok() {
-            for supply in self.slots.iter_mut().flatten() {
+            for (slot, supply) in self.slots.iter_mut().enumerate() {
+                let Some(supply) = supply else { continue };
+                reached.remember(slot, supply);
                 line::obey(supply, reading.said);
             }
         }
     }
 
-    fn tell_selected(&mut self, reading: Reading, replies: &mut Vec<u8>) {
+    fn tell_selected(&mut self, reading: Reading, replies: &mut Vec<u8>, reached: &mut Reached) {
         let Some(slot) = self.selected else { return };
         if let Some(supply) = &mut self.slots[slot] {
+            reached.remember(slot, supply);
             line::add_reply(replies, line::obey(supply, reading.said), reading.checksummed);
+        }
+    }
+}
+
+/// Which of FEVE and SEVE hold nothing.
+fn empty_registers(supply: &Supply) -> [bool; 2] {
+    [supply.feve == 0, supply.seve == 0]
+}
+
+/// Whether a register that was empty before the field is not after it. What rose and was cleared in
+/// between is not told.
+fn calls_for_service(empty_before: [bool; 2], supply: &Supply) -> bool {
+    let now = empty_registers(supply);
+    empty_before.iter().zip(now).any(|(before, now)| *before && !now)
+}
+
+/// The slots that the lines of a field have reached, with their registers before the field: no other
+/// can send a message, and a look at all 31 would cost more than the field itself.
+struct Reached {
+    count: usize,
+    /// The first `count` are the slots, in the order in which they were reached.
+    slots: [u8; SLOTS],
+    /// By slot; none if it was not reached, so that a line to everyone need not search the list.
+    before: [Option<[bool; 2]>; SLOTS],
+}
+
+impl Reached {
+    fn nobody() -> Reached {
+        Reached { count: 0, slots: [0; SLOTS], before: [None; SLOTS] }
+    }
+
+    /// Before a supply is told a line. What it held at an earlier line of the field is kept.
+    fn remember(&mut self, slot: usize, supply: &Supply) {
+        if self.before[slot].is_none() {
+            self.before[slot] = Some(empty_registers(supply));
+            self.slots[self.count] = slot as u8;
+            self.count += 1;
         }
     }
 }

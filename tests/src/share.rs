@@ -1,6 +1,7 @@
 //! A second reading of a list of calls, independent of the rack: the accepted tag 1 bytes are split
 //! into lines, then it is decided who is selected at each CR, then what one address's share is. The
-//! plain supply run on that share must end as the rack's supply at that address does.
+//! plain supply run on that share must end as the rack's supply at that address does, and the shares
+//! tell whose service messages end each call's replies.
 
 use crate::line;
 use crate::rack::{Rack, LEAST_ROOM};
@@ -255,6 +256,7 @@ pub struct Tally {
     pub entries: usize,
     pub trips: usize,
     pub releases: usize,
+    pub messages: usize,
 }
 
 impl Tally {
@@ -264,12 +266,14 @@ impl Tally {
         self.entries += other.entries;
         self.trips += other.trips;
         self.releases += other.releases;
+        self.messages += other.messages;
     }
 }
 
-/// Checks one list of calls as a whole: shares, margins, and off until release.
+/// Checks one list of calls as a whole: shares, margins, off until release, and messages.
 pub fn check(fitting: &[u8], calls: &[Call]) -> Result<Tally, String> {
-    let racks = rack_after_each_call(fitting, calls)?;
+    let (racks, said) = each_call(fitting, calls)?;
+    let mut speakers = vec![Vec::new(); calls.len()];
     let mut tally = Tally { calls: calls.len(), ..Tally::default() };
     tally.refused = calls.iter().filter(|call| !accepted(fitting, call)).count();
     for (slot, model) in fitting.iter().enumerate().filter(|(_, model)| **model != 255) {
@@ -278,18 +282,44 @@ pub fn check(fitting: &[u8], calls: &[Call]) -> Result<Tally, String> {
         check_states(*model, slot, &racks, &steps).map_err(wrong)?;
         check_off_until_release(slot, &racks, &steps).map_err(wrong)?;
         check_trips_end_by_release(*model, &steps).map_err(wrong)?;
+        calls_that_fill_a_register(*model, &steps).for_each(|call| speakers[call].push(slot));
         tally.entries += steps.len();
         tally.trips += steps.iter().filter(|step| step.tripped != Releases::default()).count();
         tally.releases += steps.iter().filter(|step| step.released != Releases::default()).count();
     }
+    for (call, (said, speakers)) in said.iter().zip(&speakers).enumerate() {
+        check_messages(said, speakers).map_err(|what| format!("call {call}: {what}"))?;
+        tally.messages += speakers.len();
+    }
     Ok(tally)
 }
 
-/// The rack after each call; a call must be refused exactly if it has a cause, and must then leave the
-/// rack as it was.
-fn rack_after_each_call(fitting: &[u8], calls: &[Call]) -> Result<Vec<Rack>, String> {
+/// The calls after which this supply has an event register that held nothing before them.
+fn calls_that_fill_a_register(model: u8, steps: &[Step]) -> impl Iterator<Item = usize> + '_ {
+    let mut before = Supply::fresh(model);
+    let entries_of_a_call = steps.chunk_by(|one, next| one.call == next.call);
+    entries_of_a_call.filter_map(move |entries| {
+        let last = entries.last()?;
+        let was = std::mem::replace(&mut before, last.after.clone());
+        let filled = |register: fn(&Supply) -> u8| register(&was) == 0 && register(&before) != 0;
+        (filled(|it| it.feve) || filled(|it| it.seve)).then_some(last.call)
+    })
+}
+
+/// The messages of these slots end what was said, and there is no other line of that kind in it.
+fn check_messages(said: &[u8], speakers: &[usize]) -> Result<(), String> {
+    let messages: String = speakers.iter().map(|slot| format!("!{slot:02}\r")).collect();
+    match said.strip_suffix(messages.as_bytes()) {
+        Some(replies) if !replies.contains(&b'!') => Ok(()),
+        _ => Err(format!("{} should end with {messages:?} alone", said.escape_ascii())),
+    }
+}
+
+/// The rack after each call, and what it said; a call must be refused exactly if it has a cause, and
+/// must then leave the rack as it was.
+fn each_call(fitting: &[u8], calls: &[Call]) -> Result<(Vec<Rack>, Vec<Vec<u8>>), String> {
     let mut rack = Rack::fit(fitting).map_err(|number| format!("fitting refused {number}"))?;
-    let mut after = Vec::new();
+    let (mut after, mut said) = (Vec::new(), Vec::new());
     for (at, call) in calls.iter().enumerate() {
         let before = rack.clone();
         let answer = rack.call(&call.bytes, call.room);
@@ -299,12 +329,14 @@ fn rack_after_each_call(fitting: &[u8], calls: &[Call]) -> Result<Vec<Rack>, Str
         if answer.is_err() && rack != before {
             return Err(format!("call {at}: refused, and yet the rack changed"));
         }
-        if answer.is_ok_and(|(used, replies)| used > call.bytes.len() || replies.len() > 512) {
+        let (used, replies) = answer.unwrap_or_default();
+        if used > call.bytes.len() || replies.len() > LEAST_ROOM {
             return Err(format!("call {at}: more bytes used or answered than there can be"));
         }
         after.push(rack.clone());
+        said.push(replies);
     }
-    Ok(after)
+    Ok((after, said))
 }
 
 /// After every call the slot's supply is the plain one on the share so far, within its limits.

@@ -72,6 +72,17 @@ pub const ENA: u8 = 1 << 7;
 /// The bits that a LINES byte may have.
 pub const LINE_BITS: u8 = AC | OTP | SO | ENA;
 
+// STAT: the bit for each condition; bit 6 is spare.
+pub const CV: u8 = 1 << 0;
+pub const CC: u8 = 1 << 1;
+pub const NO_FAULT: u8 = 1 << 2;
+pub const FAULT: u8 = 1 << 3;
+pub const AUTO_START: u8 = 1 << 4;
+pub const FOLDBACK: u8 = 1 << 5;
+pub const LOCAL: u8 = 1 << 7;
+/// The bits that SENA keeps.
+pub const SENA_BITS: u8 = CV | CC | NO_FAULT | FAULT | LOCAL;
+
 #[derive(Clone, Copy, Debug, PartialEq, Eq)]
 pub enum Mode {
     Local,
@@ -117,6 +128,8 @@ pub enum Order {
     Ast(bool),
     Rmt(Mode),
     Fena(u8),
+    /// The byte as it was given, with the bits that SENA does not keep.
+    Sena(u8),
     Cls,
     Rst,
 }
@@ -137,6 +150,10 @@ pub enum Query {
     Flt,
     Fena,
     Feve,
+    Stt,
+    Stat,
+    Sena,
+    Seve,
 }
 
 #[derive(Clone, Copy, Debug, PartialEq, Eq)]
@@ -177,6 +194,28 @@ pub enum Answer {
     Volts(i64),
     Amperes(i64),
     Byte(u8),
+    Status(Status),
+}
+
+/// The six figures of STT?, in the order in which it says them.
+#[derive(Clone, Copy, Debug, PartialEq, Eq)]
+pub struct Status {
+    pub mv: i64,
+    pub pv: i64,
+    pub mc: i64,
+    pub pc: i64,
+    pub stat: u8,
+    pub flt: u8,
+}
+
+impl fmt::Display for Status {
+    /// Each figure looks as it does where a query of its own asks for it.
+    fn fmt(&self, out: &mut fmt::Formatter) -> fmt::Result {
+        let [mv, pv] = [self.mv, self.pv].map(Answer::Volts);
+        let [mc, pc] = [self.mc, self.pc].map(Answer::Amperes);
+        let [stat, flt] = [self.stat, self.flt].map(Answer::Byte);
+        write!(out, "MV({mv}),PV({pv}),MC({mc}),PC({pc}),SR({stat}),FR({flt})")
+    }
 }
 
 impl fmt::Display for Answer {
@@ -187,6 +226,7 @@ impl fmt::Display for Answer {
             Answer::Volts(ticks) => write!(out, "{}.{:04}", ticks / 10_000, ticks % 10_000),
             Answer::Amperes(ma) => write!(out, "{}.{:03}", ma / 1_000, ma % 1_000),
             Answer::Byte(byte) => write!(out, "{byte:02X}"),
+            Answer::Status(status) => status.fmt(out),
         }
     }
 }
@@ -220,8 +260,18 @@ pub struct Supply {
     pub ovp_trip: bool,
     pub fena: u8,
     pub feve: u8,
+    pub sena: u8,
+    pub seve: u8,
     pub volt_count: u16,
     pub ampere_count: u16,
+}
+
+/// How an event finds a supply: what its registers judge the event against.
+struct Found {
+    flt: u8,
+    fena: u8,
+    stat: u8,
+    sena: u8,
 }
 
 impl Supply {
@@ -242,6 +292,8 @@ impl Supply {
             ovp_trip: false,
             fena: 0,
             feve: 0,
+            sena: 0,
+            seve: 0,
             volt_count: 0,
             ampere_count: 0,
         }
@@ -270,6 +322,26 @@ impl Supply {
         self.flt() == 0
     }
 
+    /// STAT: worked out like FLT, and never stored either.
+    pub fn stat(&self) -> u8 {
+        let regulation = match self.regulation() {
+            "CV" => CV,
+            "CC" => CC,
+            _ => 0,
+        };
+        let mut stat = regulation | if self.feve == 0 { NO_FAULT } else { FAULT };
+        if self.ast {
+            stat |= AUTO_START;
+        }
+        if self.armed {
+            stat |= FOLDBACK;
+        }
+        if self.mode == Mode::Local {
+            stat |= LOCAL;
+        }
+        stat
+    }
+
     /// Clause "Margins", with the ranges named beside it.
     pub fn within_limits(&self) -> bool {
         let model = self.limits();
@@ -281,20 +353,26 @@ impl Supply {
             && (model.ovp_least..=model.ovp_most).contains(&self.ovp)
     }
 
-    /// Clause "An event": FEVE takes what rose and was enabled before the event.
-    fn keep_risen_faults(&mut self, flt_before: u8, fena_before: u8) {
-        self.feve |= self.flt() & !flt_before & fena_before;
+    fn found(&self) -> Found {
+        Found { flt: self.flt(), fena: self.fena, stat: self.stat(), sena: self.sena }
+    }
+
+    /// Clause "An event": either register takes what rose and was enabled before the event. STAT
+    /// tells whether FEVE holds anything, so FEVE comes first.
+    fn keep_what_rose(&mut self, before: &Found) {
+        self.feve |= self.flt() & !before.flt & before.fena;
+        self.seve |= self.stat() & !before.stat & before.sena;
     }
 
     pub fn event(&mut self, event: Event) {
-        let (flt, fena) = (self.flt(), self.fena);
+        let before = self.found();
         match event {
             Event::Key(key) => self.press(key),
             Event::Knob(target, step) => self.turn(target, step),
             Event::Lines(lines) => self.set_lines(lines),
             Event::Sample { volts, amperes } => self.sample(volts, amperes),
         }
-        self.keep_risen_faults(flt, fena);
+        self.keep_what_rose(&before);
     }
 
     /// Clause "Lines event": its three sentences apply side by side, each judged on the change.
@@ -410,16 +488,17 @@ impl Supply {
     /// Clause "Order lines": the checks in turn, then the effect; a refusal changes nothing.
     pub fn order(&mut self, order: Order) -> Result<(), Code> {
         self.judge(order)?;
-        let (flt, fena) = (self.flt(), self.fena);
+        let before = self.found();
         self.carry_out(order);
         let takes_over = matches!(order, Order::Pv(_) | Order::Pc(_) | Order::Out(_));
         if takes_over && self.mode == Mode::Local {
             self.mode = Mode::Remote;
         }
-        self.keep_risen_faults(flt, fena);
-        if order == Order::Rst {
-            // The drop of WANT by the reset itself must not stay in FEVE.
+        self.keep_what_rose(&before);
+        if matches!(order, Order::Cls | Order::Rst) {
+            // Also what the clearing itself lets rise: WANT off in FLT, no fault in STAT.
             self.feve = 0;
+            self.seve = 0;
         }
         Ok(())
     }
@@ -459,25 +538,35 @@ impl Supply {
             Order::Ast(on) => self.ast = on,
             Order::Rmt(mode) => self.mode = mode,
             Order::Fena(bits) => self.fena = bits,
-            Order::Cls => self.feve = 0,
+            Order::Sena(bits) => self.sena = bits & SENA_BITS,
+            // The registers are cleared when they have gained.
+            Order::Cls => {}
             Order::Rst => self.reset(),
         }
     }
 
-    /// Clause "RST": fresh, with LINES, FENA and the counts kept and MODE 1.
+    /// Clause "RST": fresh, with LINES, FENA, SENA and the counts kept and MODE 1.
     fn reset(&mut self) {
         *self = Supply {
             mode: Mode::Remote,
             lines: self.lines,
             fena: self.fena,
+            sena: self.sena,
             volt_count: self.volt_count,
             ampere_count: self.ampere_count,
             ..Supply::fresh(self.model)
         };
     }
 
-    /// Clause "Queries".
+    /// Clause "Queries". An answered one is an event: FEVE? makes STAT say that no fault is active.
     pub fn ask(&mut self, query: Query) -> Answer {
+        let before = self.found();
+        let answer = self.answer(query);
+        self.keep_what_rose(&before);
+        answer
+    }
+
+    fn answer(&mut self, query: Query) -> Answer {
         match query {
             Query::Pv => Answer::Volts(self.pv),
             Query::Pc => Answer::Amperes(self.pc),
@@ -493,6 +582,21 @@ impl Supply {
             Query::Flt => Answer::Byte(self.flt()),
             Query::Fena => Answer::Byte(self.fena),
             Query::Feve => Answer::Byte(std::mem::take(&mut self.feve)),
+            Query::Stt => Answer::Status(self.status()),
+            Query::Stat => Answer::Byte(self.stat()),
+            Query::Sena => Answer::Byte(self.sena),
+            Query::Seve => Answer::Byte(std::mem::take(&mut self.seve)),
+        }
+    }
+
+    fn status(&self) -> Status {
+        Status {
+            mv: self.volt_reading(),
+            pv: self.pv,
+            mc: self.ampere_reading(),
+            pc: self.pc,
+            stat: self.stat(),
+            flt: self.flt(),
         }
     }
 

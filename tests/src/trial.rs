@@ -2,8 +2,8 @@
 //! line of decimal numbers for a program that tries another supply on the same.
 //!
 //! The numbers of a line: the model; the state before (PV PC OVP UVL WANT ARMED AST MODE LINES
-//! FOLD-trip OVP-trip FENA FEVE volt-count ampere-count); the act's kind and two operands; the
-//! error code, or 0 if accepted; the state after; the answer's kind and two values.
+//! FOLD-trip OVP-trip FENA FEVE SENA SEVE volt-count ampere-count); the act's kind and two operands;
+//! the error code, or 0 if accepted; the state after; the answer's kind and six values.
 
 use crate::supply::{Code, Event, Key, Mode, Order, Query, Supply, Target};
 
@@ -32,7 +32,11 @@ pub struct Expected {
 }
 
 /// How many numbers of a line are expected: the error code, the state after and the answer.
-pub const EXPECTED: usize = 19;
+pub const EXPECTED: usize = 1 + STATE + ANSWER;
+
+/// How many numbers a state is, and an answer.
+const STATE: usize = 17;
+const ANSWER: usize = 7;
 
 // The kinds of act, as the lines number them.
 const NOTHING: i64 = 0;
@@ -50,11 +54,13 @@ const FENA: i64 = 11;
 const CLS: i64 = 12;
 const RST: i64 = 13;
 const QUERY: i64 = 14;
+const SENA: i64 = 15;
 
 // The kinds of answer.
 const FIGURE: i64 = 1;
 const WORD: i64 = 2;
 const HEX: i64 = 3;
+const STATUS: i64 = 4;
 
 /// The words of answers, in the order of their numbers.
 const WORDS: [&str; 7] = ["ON", "OFF", "LOC", "REM", "LLO", "CC", "CV"];
@@ -103,7 +109,7 @@ fn line_of(numbers: &[i64]) -> String {
     words.join(" ") + "\n"
 }
 
-fn state_numbers(supply: &Supply) -> [i64; 15] {
+fn state_numbers(supply: &Supply) -> [i64; STATE] {
     [
         supply.pv,
         supply.pc,
@@ -118,6 +124,8 @@ fn state_numbers(supply: &Supply) -> [i64; 15] {
         i64::from(supply.ovp_trip),
         i64::from(supply.fena),
         i64::from(supply.feve),
+        i64::from(supply.sena),
+        i64::from(supply.seve),
         i64::from(supply.volt_count),
         i64::from(supply.ampere_count),
     ]
@@ -180,13 +188,14 @@ fn order_numbers(order: Order) -> [i64; 3] {
         Order::Ast(on) => [AST, i64::from(on), 0],
         Order::Rmt(mode) => [RMT, mode_number(mode), 0],
         Order::Fena(bits) => [FENA, i64::from(bits), 0],
+        Order::Sena(bits) => [SENA, i64::from(bits), 0],
         Order::Cls => [CLS, 0, 0],
         Order::Rst => [RST, 0, 0],
     }
 }
 
-/// The queries in the paper's order.
-pub const QUERIES: [Query; 14] = [
+/// The queries in the paper's order, those of the status registers behind them.
+pub const QUERIES: [Query; 18] = [
     Query::Pv,
     Query::Pc,
     Query::Ovp,
@@ -201,6 +210,10 @@ pub const QUERIES: [Query; 14] = [
     Query::Flt,
     Query::Fena,
     Query::Feve,
+    Query::Stt,
+    Query::Stat,
+    Query::Sena,
+    Query::Seve,
 ];
 
 fn query_number(query: Query) -> i64 {
@@ -214,20 +227,51 @@ fn code_number(code: Code) -> i64 {
     16 * high + digits.parse::<i64>().expect("two digits, the first of them 0")
 }
 
-/// An answer by meaning, read back from its text: a byte, a word's number, or a figure's decimals
-/// and value. The query decides which (CC is a word of MODE? and a byte of FLT?).
-fn answer_numbers(act: Act, answer: Option<&str>) -> [i64; 3] {
-    let (Act::Query(query), Some(text)) = (act, answer) else { return [0, 0, 0] };
-    if matches!(query, Query::Flt | Query::Fena | Query::Feve) {
-        return [HEX, i64::from_str_radix(text, 16).expect("two hexadecimal digits"), 0];
-    }
-    match text.split_once('.') {
-        None => [WORD, word_number(text), 0],
-        Some((whole, decimals)) => {
-            let value = format!("{whole}{decimals}").parse().expect("digits");
-            [FIGURE, decimals.len() as i64, value]
+/// An answer by meaning, read back from its text: a byte, a word's number, a figure's decimals and
+/// value, or all that STT? says. The query decides which (CC is a word of MODE? and a byte of FLT?).
+fn answer_numbers(act: Act, answer: Option<&str>) -> [i64; ANSWER] {
+    let (Act::Query(query), Some(text)) = (act, answer) else { return [0; ANSWER] };
+    match query {
+        Query::Stt => numbered(STATUS, &status_values(text)),
+        Query::Flt | Query::Fena | Query::Feve | Query::Stat | Query::Sena | Query::Seve => {
+            numbered(HEX, &[byte_value(text)])
         }
+        _ => match text.split_once('.') {
+            None => numbered(WORD, &[word_number(text)]),
+            Some((_, decimals)) => numbered(FIGURE, &[decimals.len() as i64, figure_value(text)]),
+        },
     }
+}
+
+/// An answer's kind with its values, and 0 for those that it does not have.
+fn numbered(kind: i64, values: &[i64]) -> [i64; ANSWER] {
+    let mut numbers = [0; ANSWER];
+    numbers[0] = kind;
+    numbers[1..=values.len()].copy_from_slice(values);
+    numbers
+}
+
+/// Four figures in ticks and mA, and two bytes: what stands in each pair of brackets.
+fn status_values(text: &str) -> Vec<i64> {
+    let value = |part: &str| {
+        let (_, rest) = part.split_once('(').expect("a name and a bracket");
+        let inner = rest.strip_suffix(')').expect("the bracket closed");
+        if inner.contains('.') {
+            figure_value(inner)
+        } else {
+            byte_value(inner)
+        }
+    };
+    text.split(',').map(value).collect()
+}
+
+/// A figure in units of its last decimal.
+fn figure_value(text: &str) -> i64 {
+    text.replace('.', "").parse().expect("digits")
+}
+
+fn byte_value(text: &str) -> i64 {
+    i64::from_str_radix(text, 16).expect("two hexadecimal digits")
 }
 
 fn word_number(text: &str) -> i64 {

@@ -20,6 +20,10 @@ const FAR: [i64; 3] = [1 << 31, (1 << 32) + 7, 9_999_999_999_990_000];
 const STEPS: [i32; 7] = [i32::MIN, i32::MIN + 1, -1, 0, 1, i32::MAX - 1, i32::MAX];
 /// Bytes for FENA and FEVE: none, all, and bits apart.
 const REGISTERS: [u8; 5] = [0, 255, 0b0101_0010, 0b0010_1100, 0b1000_0001];
+/// Bytes for SENA and SEVE, which have only these bits: none, all, and bits apart.
+const STATUS_REGISTERS: [u8; 5] = [0, 0x8F, 0x05, 0x0A, 0x84];
+/// Bytes that SENA is ordered to: each bit, and what it keeps and drops together.
+const ENABLES: [u8; 12] = [1, 2, 4, 8, 16, 32, 64, 128, 0, 0x70, 0x8F, 0xFF];
 /// Which trips are set: FOLD, OVP. Fields never lead to both, but each sentence is about one.
 const TRIPS: [(bool, bool); 4] = [(false, false), (true, false), (false, true), (true, true)];
 
@@ -51,6 +55,8 @@ pub fn all() -> Vec<Trial> {
     table.output_orders();
     table.switch_orders();
     table.register_orders();
+    table.status_orders();
+    table.status_rises();
     table.faults_told();
     table.queries_in_every_mode();
     table.trials
@@ -147,6 +153,60 @@ fn line_bytes() -> impl Iterator<Item = u8> {
     (0..=u8::MAX).filter(|byte| byte & !LINE_BITS == 0)
 }
 
+/// Supplies at 10 A of model 0, by PC in constant voltage and in current limit: on, and off by an
+/// order, a line and each trip.
+fn regulated() -> Vec<Supply> {
+    let reads = Supply { ampere_count: TEN_AMPERES, want: true, ..Supply::fresh(0) };
+    let [cv, cc] = [10_001, 10_000].map(|pc| Supply { pc, ..reads.clone() });
+    vec![
+        cv.clone(),
+        cc.clone(),
+        Supply { want: false, ..cv.clone() },
+        Supply { want: false, armed: true, ..cc.clone() },
+        Supply { lines: SO, ast: true, ..cv.clone() },
+        Supply { lines: AC | ENA, ..cc.clone() },
+        with_trips(cc, (true, false)),
+        with_trips(cv, (false, true)),
+    ]
+}
+
+/// The ampere count that reads 10 A on model 0.
+const TEN_AMPERES: u16 = 5_000;
+
+/// What can make a bit of STAT rise or fall, and what cannot.
+fn status_acts() -> Vec<Act> {
+    let orders = [
+        Order::Pc(10_000),
+        Order::Pc(10_001),
+        Order::Out(false),
+        Order::Out(true),
+        Order::Fld(false),
+        Order::Fld(true),
+        Order::Ast(true),
+        Order::Rmt(Mode::Local),
+        Order::Rmt(Mode::Remote),
+        Order::Sena(255),
+        Order::Cls,
+        Order::Rst,
+    ];
+    let queries = [Query::Feve, Query::Seve, Query::Stat, Query::Stt];
+    let sample = |volts, amperes| Event::Sample { volts, amperes };
+    let events = [
+        Event::Key(Key::Output),
+        Event::Key(Key::Fold),
+        Event::Key(Key::Local),
+        Event::Knob(Target::Pc, 1),
+        Event::Knob(Target::Pc, -1),
+        Event::Lines(0),
+        Event::Lines(SO),
+        sample(0, TEN_AMPERES - 1),
+        sample(0, TEN_AMPERES + 1),
+        sample(u16::MAX, 0),
+    ];
+    let orders = orders.into_iter().map(Act::Order);
+    orders.chain(queries.map(Act::Query)).chain(events.map(Act::Event)).collect()
+}
+
 struct Table {
     trials: Vec<Trial>,
     draw: Draw,
@@ -184,6 +244,8 @@ impl Table {
             mode: self.draw.pick(&MODES),
             fena: self.draw.pick(&REGISTERS),
             feve: self.draw.pick(&REGISTERS),
+            sena: self.draw.pick(&STATUS_REGISTERS),
+            seve: self.draw.pick(&STATUS_REGISTERS),
             ..Supply::fresh(model)
         }
     }
@@ -280,14 +342,18 @@ impl Table {
         }
     }
 
-    /// The four settings as queries show them, and MODE? around PC.
+    /// The four settings as queries show them; MODE? and STAT? around PC; STT?.
     fn figures(&mut self, supply: &Supply) {
         for query in [Query::Pv, Query::Pc, Query::Ovp, Query::Uvl] {
             self.ask(supply.clone(), query);
         }
         let amperes = first_count(supply.pc, supply.limits().rated_amperes);
         for ampere_count in [amperes - 1, amperes, u16::MAX] {
-            self.ask(Supply { ampere_count, want: true, ..supply.clone() }, Query::Mode);
+            let on = Supply { ampere_count, want: true, ..supply.clone() };
+            let volt_count = self.draw.pick(&[0, 49_999, u16::MAX]);
+            self.ask(on.clone(), Query::Mode);
+            self.ask(on.clone(), Query::Stat);
+            self.ask(Supply { volt_count, ..on }, Query::Stt);
         }
     }
 
@@ -419,6 +485,43 @@ impl Table {
                 self.nothing(supply.clone());
                 let bits = self.draw.pick(&[0, 1, 15, 16, 127, 128, 254, 255]);
                 self.order(supply, Order::Fena(bits));
+            }
+        }
+    }
+
+    /// SENA, SENA?, SEVE?, STAT? and STT? over bytes of both registers.
+    fn status_orders(&mut self) {
+        for sena in STATUS_REGISTERS {
+            for seve in STATUS_REGISTERS {
+                let supply = Supply { sena, seve, ..self.any() };
+                for query in [Query::Sena, Query::Seve, Query::Stat, Query::Stt, Query::Feve] {
+                    self.ask(supply.clone(), query);
+                }
+                self.order(supply.clone(), Order::Cls);
+                self.order(supply, Order::Rst);
+            }
+        }
+        for bits in ENABLES {
+            for mode in MODES {
+                let supply = Supply { mode, ..self.any() };
+                self.order(supply, Order::Sena(bits));
+            }
+        }
+    }
+
+    /// Acts of every kind on outputs that are on and off for each reason, with FEVE 0 and not: what
+    /// rises in STAT, what stands and what falls, enabled and not.
+    fn status_rises(&mut self) {
+        for act in status_acts() {
+            for (turn, mode) in MODES.into_iter().cycle().take(2 * MODES.len()).enumerate() {
+                for state in regulated() {
+                    let any = self.any();
+                    let feve = if turn % 2 == 0 { 0 } else { any.feve };
+                    let fena = self.draw.pick(&[0, 255, any.fena]);
+                    let Supply { sena, seve, .. } = any;
+                    let before = Supply { mode, fena, feve, sena, seve, ..state };
+                    self.trials.push(Trial { before, act });
+                }
             }
         }
     }

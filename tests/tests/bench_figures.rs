@@ -99,6 +99,15 @@ fn figure_10_trip_and_release() {
     assert_eq!(say(&mut supply, "FLT?"), "00");
 }
 
+/// The answer that the papers give for STT?, on every model.
+#[test]
+fn status_of_a_fresh_supply() {
+    for model in 0..12 {
+        let status = "MV(0.0000),PV(0.0000),MC(0.000),PC(0.000),SR(84),FR(40)";
+        expect(model, &[("STT?", status), ("STAT?", "84"), ("SENA?", "00"), ("SEVE?", "00")]);
+    }
+}
+
 /// The last two releases named leave the output off.
 #[test]
 fn rst_and_disarming_leave_the_output_off() {

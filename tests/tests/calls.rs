@@ -28,6 +28,8 @@ const NO_SUPPLY: Supply = Supply {
     ovp_trip: 0,
     fena: 0,
     feve: 0,
+    sena: 0,
+    seve: 0,
     volt_count: 0,
     amp_count: 0,
 };
@@ -55,6 +57,8 @@ fn supply_of(plain: &Plain) -> Supply {
         ovp_trip: plain.ovp_trip.into(),
         fena: plain.fena,
         feve: plain.feve,
+        sena: plain.sena,
+        seve: plain.seve,
         volt_count: plain.volt_count,
         amp_count: plain.ampere_count,
     }
@@ -76,6 +80,8 @@ fn plain_of(model: u8, supply: &Supply) -> Plain {
         ovp_trip: supply.ovp_trip == 1,
         fena: supply.fena,
         feve: supply.feve,
+        sena: supply.sena,
+        seve: supply.seve,
         volt_count: supply.volt_count,
         ampere_count: supply.amp_count,
     }
@@ -127,6 +133,67 @@ impl Moment<'_> {
     fn accepted(&self) -> bool {
         self.done.code == 0
     }
+
+    /// Whether it is an accepted serial field with this text in it.
+    fn hears(&self, text: &[u8]) -> bool {
+        self.accepted() && self.bytes[0] == 1 && {
+            let payload = &self.bytes[3..self.done.used];
+            payload.windows(text.len()).any(|part| part == text)
+        }
+    }
+
+    /// The replies, and the service messages behind them.
+    fn said(&self) -> (Vec<u8>, Vec<Message>) {
+        let mut replies = self.reply[..self.done.length].to_vec();
+        let mut messages = Vec::new();
+        while let Some(at) = replies.len().checked_sub(4).filter(|at| replies[*at] == b'!') {
+            messages.insert(0, replies.split_off(at).try_into().expect("four bytes"));
+        }
+        (replies, messages)
+    }
+
+    /// Puts these bytes in the place of the replies and messages.
+    fn say(&mut self, bytes: &[u8]) {
+        self.reply[..bytes.len()].copy_from_slice(bytes);
+        self.done.length = bytes.len();
+    }
+
+    /// Lets only some of the messages through.
+    fn only(&mut self, told: impl Fn(&Moment, usize) -> bool) {
+        let (replies, mut messages) = self.said();
+        messages.retain(|message| told(self, speaker(message)));
+        self.say(&[replies, messages.concat()].concat());
+    }
+
+    /// Changes each supply that the call may change, with how it was before.
+    fn supplies(&mut self, change: impl Fn(&mut Supply, &Supply)) {
+        if self.accepted() {
+            self.rack
+                .slots
+                .iter_mut()
+                .zip(&self.before.slots)
+                .for_each(|(it, was)| change(it, was));
+        }
+    }
+
+    /// The call with each serial byte as a field of its own: what is told is told line by line.
+    fn byte_by_byte(&mut self) {
+        if self.accepted() && self.bytes[0] == 1 && known(&self.before) {
+            let mut model = model_of(&self.before);
+            let field = |byte: &u8| [1, 0, 1, *byte];
+            let work = |field: [u8; 4]| model.call(&field, 512).expect("a good field").1;
+            let said = self.bytes[3..self.done.used].iter().map(field).flat_map(work);
+            self.say(&said.collect::<Vec<u8>>());
+        }
+    }
+}
+
+/// A service message as it is sent.
+type Message = [u8; 4];
+
+/// The address that a message names.
+fn speaker(message: &Message) -> usize {
+    usize::from(message[1] - b'0') * 10 + usize::from(message[2] - b'0')
 }
 
 /// The model with something wrong done after each fitting and each call.
@@ -230,6 +297,63 @@ const CALLS: &[(&str, WrongCall)] = &[
     ("the line's mark as spoiled should be", |it| it.rack.line.spoiled = 0),
     ("the address selected should be",
         |it| if it.accepted() && it.rack.line.selected == NOBODY { it.rack.line.selected = 0 }),
+    // SENA and SEVE
+    ("SENA should be", |it| if it.hears(b"SENA FF\r") { it.supplies(|it, _| it.sena |= 0x70 * (it.sena / 0x8F)) }),
+    ("SENA should be", |it| it.supplies(|it, _| it.sena &= !0x08)),
+    ("SENA should be", |it| if it.hears(b"RST\r") { it.supplies(|it, _| it.sena = 0) }),
+    ("FENA should be", |it| if it.hears(b"RST\r") { it.supplies(|it, _| it.fena = 0) }),
+    ("SEVE should be", |it| if it.hears(b"CLS\r") { it.supplies(|it, was| it.seve = was.seve) }),
+    ("SEVE should be", |it| if it.hears(b"RST\r") { it.supplies(|it, was| it.seve = was.seve) }),
+    ("SEVE should be", |it| if it.hears(b"GRST\r") { it.supplies(|it, was| it.seve = was.seve) }),
+    ("SEVE should be", |it| if it.hears(b"CLS\r") { it.supplies(|it, was| it.seve = was.sena & 0x04) }),
+    ("SEVE should be", |it| if it.hears(b"SEVE?\r") { it.supplies(|it, was| it.seve |= was.seve) }),
+    ("SEVE should be", |it| if it.hears(b"FEVE?\r") { it.supplies(|it, was| it.seve = was.seve) }),
+    ("SEVE should be", |it| it.supplies(|it, was| it.seve &= !0x08 | was.seve)),
+    ("SEVE should be", |it| if it.hears(b"RMT 0\r") { it.supplies(|it, was| it.seve &= !0x80 | was.seve) }),
+    ("SEVE should be", |it| if it.hears(b"PC ") { it.supplies(|it, was| it.seve = was.seve) }),
+    ("SEVE should be", |it| it.supplies(|it, was| if it.ast > was.ast { it.seve |= 0x10 })),
+    ("SEVE should be", |it| if it.hears(b"SENA 8") { it.supplies(|it, was| it.seve |= it.sena & !was.sena & 0x80) }),
+    ("byte 47 of the reply should be", |it| if it.hears(b"STT?\r") && it.done.length > 50 { it.reply[47] ^= 1 }),
+    // service messages
+    ("length should be", |it| it.only(|_, _| false)),
+    ("length should be", |it| it.only(|it, _| it.bytes[0] == 1)),
+    ("length should be", |it| it.only(|it, _| it.bytes[0] != 5)),
+    ("length should be", |it| it.only(|it, slot| usize::from(it.rack.line.selected) == slot)),
+    ("length should be", |it| it.only(|it, slot| it.rack.slots[slot].feve > 0)),
+    ("length should be", |it| it.only(|it, slot| it.rack.slots[slot].seve > 0)),
+    ("length should be", |it| it.only(|it, slot| it.before.slots[slot].seve == 0)),
+    ("length should be", |it| it.only(|it, slot| it.before.slots[slot].feve == 0)),
+    ("length should be", |it| it.only(|it, slot| it.said().1.last().is_none_or(|last| speaker(last) == slot))),
+    ("of the reply should be 76 and is 33", |it| it.byte_by_byte()),
+    ("length should be", |it| {
+        let (replies, messages) = it.said();
+        it.say(&[replies, messages.concat(), messages.concat()].concat());
+    }),
+    ("length should be", |it| if it.accepted() {
+        let told = |slot: &usize| it.rack.slots[*slot].seve & !it.before.slots[*slot].seve > 0;
+        let messages: String = (0..SLOTS).filter(told).map(|slot| format!("!{slot:02}\r")).collect();
+        it.say(&[it.said().0, messages.into()].concat());
+    }),
+    ("length should be", |it| {
+        let (replies, messages) = it.said();
+        let summed = messages.iter().flat_map(|it| [&it[..3], b"$B7\r"].concat());
+        it.say(&replies.into_iter().chain(summed).collect::<Vec<u8>>());
+    }),
+    ("length should be", |it| {
+        let (replies, messages) = it.said();
+        let short = messages.iter().flat_map(|it| format!("!{}\r", speaker(it)).into_bytes());
+        it.say(&replies.into_iter().chain(short).collect::<Vec<u8>>());
+    }),
+    ("of the reply should be", |it| {
+        let (replies, messages) = it.said();
+        it.say(&[messages.concat(), replies].concat());
+    }),
+    ("of the reply should be", |it| {
+        let (replies, mut messages) = it.said();
+        messages.reverse();
+        it.say(&[replies, messages.concat()].concat());
+    }),
+    ("of the reply should be 13 and is 10", |it| if !it.said().1.is_empty() { it.reply[it.done.length - 1] = 10 }),
     // refusals: the wrong number, another order, something returned or changed
     ("code should be 1 and is 2", |it| if it.reply.is_empty() && it.bytes.len() < 3 { it.done.code = 2 }),
     ("code should be 3 and is 4", |it| if it.done.code == 3 && it.bytes[1] > 0 { it.done.code = 4 }),
@@ -285,6 +409,10 @@ const FITS: &[(&str, WrongFit)] = &[
         |list, fitted| if fitted.code == 0 && list[4] == 5 { fitted.rack.slots[4].want = 1 }),
     ("slot 30 OVP should be",
         |list, fitted| if fitted.code == 0 && list[30] == 11 { fitted.rack.slots[30].ovp -= 1 }),
+    ("slot 8 SENA should be",
+        |list, fitted| if fitted.code == 0 && list[8] == 2 { fitted.rack.slots[8].sena = 0x8F }),
+    ("slot 8 SEVE should be",
+        |list, fitted| if fitted.code == 0 && list[9] == 2 { fitted.rack.slots[8].seve = 1 }),
     ("slot 2 FENA should be",
         |list, fitted| if fitted.code == 0 && list[1] == 7 { fitted.rack.slots[2].fena = 1 }),
     ("the model of slot 0 should be 10 and is 9",
@@ -380,7 +508,8 @@ fn each_field_of_a_rack_has_its_place() {
             }
         )* };
     }
-    each!(pv pc ovp uvl want armed ast mode lines fold_trip ovp_trip fena feve volt_count amp_count);
+    each!(pv pc ovp uvl want armed ast mode lines fold_trip ovp_trip);
+    each!(fena feve sena seve volt_count amp_count);
     for slot in 0..SLOTS {
         rack.models[slot] = 0;
         moved(&rack);

@@ -110,7 +110,7 @@ fn the_bench_figures_stand_at_the_start() {
 
 /// Each word with the error codes that lines alone can draw from it, apart from spoiled lines and
 /// wrong checksums. E07 takes a LINES byte, which no line brings.
-const WORDS: [(&str, &[&str]); 31] = [
+const WORDS: [(&str, &[&str]); 36] = [
     ("PV", &["OK", "C02", "C03", "C05", "E01", "E02"]),
     ("PC", &["OK", "C02", "C03", "C05"]),
     ("OVP", &["OK", "C02", "C03", "C05", "E04"]),
@@ -121,6 +121,7 @@ const WORDS: [(&str, &[&str]); 31] = [
     ("AST", &["OK", "C02", "C03"]),
     ("RMT", &["OK", "C02", "C03"]),
     ("FENA", &["OK", "C02", "C03"]),
+    ("SENA", &["OK", "C02", "C03"]),
     ("CLS", &["OK", "C03"]),
     ("RST", &["OK", "C03"]),
     ("PV?", &["0.0000", "628.5714", "C03"]),
@@ -137,6 +138,10 @@ const WORDS: [(&str, &[&str]); 31] = [
     ("FLT?", &["00", "40", "C03"]),
     ("FENA?", &["00", "FF", "C03"]),
     ("FEVE?", &["00", "40", "C03"]),
+    ("STT?", &["MV(0.0000),PV(0.0000),MC(0.000),PC(0.000),SR(84),FR(40)", "C03"]),
+    ("STAT?", &["84", "04", "05", "06", "08", "C03"]),
+    ("SENA?", &["00", "8F", "C03"]),
+    ("SEVE?", &["00", "01", "02", "04", "08", "80", "C03"]),
     ("ADR", &["OK", "C02", "C03", "C05"]),
     ("GPV", &[""]),
     ("GPC", &[""]),
@@ -171,10 +176,10 @@ fn every_word_comes_in_capitals_small_and_mixed() {
 
 /// A reply of each kind, with its checksum.
 #[rustfmt::skip]
-const SUMMED: [&str; 19] = [
+const SUMMED: [&str; 21] = [
     "OK$9A", "C01$A4", "C02$A5", "C03$A6", "C05$A8", "E01$A6", "E02$A7", "E04$A9", "E06$AB",
     "ON$9D", "OFF$DB", "LOC$DE", "REM$E4", "LLO$E7", "CC$86", "CV$99", "40$64", "0.0000$1E",
-    "0.000$EE",
+    "0.000$EE", "8C$7B", "80$68",
 ];
 
 #[test]

@@ -1,14 +1,16 @@
 //! Generated lists: the rack against the plain supply on each share, and orders against the knob.
 
-use rack_tests::compare;
+use rack_tests::compare::{self, Service};
 use rack_tests::generate::{generate, Draw, Input};
 use rack_tests::program;
-use rack_tests::supply::{Event, Mode, Order, Supply, Target};
+use rack_tests::rack::SLOTS;
+use rack_tests::supply::{Event, Mode, Order, Supply, Target, SENA_BITS};
 
 #[test]
 fn rack_equals_plain_supply_on_its_share() {
     let tally = compare::with_itself(2_000, 20_260).unwrap_or_else(|what| panic!("{what}"));
     assert!(tally.trips > 500 && tally.releases > 2_000 && tally.refused > 2_000, "{tally:?}");
+    assert!(tally.messages > 2_000, "{tally:?}");
 }
 
 #[test]
@@ -32,6 +34,8 @@ fn generated_inputs_reach_every_reply_and_refusal() {
         "REM",
         "LLO",
         "CV",
+        "a status",
+        "a message",
         "refused 2",
         "refused 3",
         "refused 4",
@@ -45,6 +49,28 @@ fn generated_inputs_reach_every_reply_and_refusal() {
         assert!(times >= 5, "{reply} came {times} times");
     }
 }
+
+#[test]
+fn generated_inputs_bring_messages_of_every_kind() {
+    let service = compare::service_counts(2_000, 7);
+    let several: usize = service.speakers[3..].iter().sum();
+    let all = service.speakers[SLOTS];
+    let [_, one, two, ..] = service.speakers;
+    assert!(one > 2_000 && two > 100 && several > 100 && all > 10, "{service:?}");
+    assert!(service.tags[1..].iter().all(|times| *times > 50), "{service:?}");
+    for (bit, times) in service.bits.iter().enumerate() {
+        let kept = SENA_BITS >> bit & 1 == 1;
+        assert!(if kept { *times > 300 } else { *times == 0 }, "bit {bit}: {service:?}");
+    }
+    assert!(service.registers.iter().all(|times| *times > 100), "{service:?}");
+    let Service { while_other_stands, not_selected, hidden, longest, .. } = service;
+    assert!(while_other_stands > 100 && not_selected > 100 && hidden > 100, "{service:?}");
+    assert!(longest <= LONGEST, "{service:?}");
+}
+
+/// What one field can draw at most: a global that ends a line kept from before, three STT? of 59
+/// characters and their CR, and a message from each slot.
+const LONGEST: usize = 3 * 60 + 4 * SLOTS;
 
 /// An order is accepted exactly if the knob would not be brought back.
 #[test]

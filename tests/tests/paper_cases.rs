@@ -46,6 +46,39 @@ fn a_call_takes_the_first_field_and_ignores_the_rest() {
 }
 
 #[test]
+fn messages_count_in_the_length_of_the_replies() {
+    let mut rack = rack_with_model_0_in_slot_6();
+    rack.call(b"\x01\x00\x0EADR 6\rSENA 80\r", 512).expect("accepted");
+    assert_eq!(rack.call(b"\x01\x00\x06RMT 1\r", 512), Ok((9, b"OK\r".to_vec())));
+    let before = rack.clone();
+    assert_eq!(rack.call(b"\x02\x00\x02\x06\x02", 512), Ok((5, b"!06\r".to_vec())));
+    rack = before;
+    assert_eq!(rack.call(b"\x01\x00\x06RMT 0\r", 512), Ok((9, b"OK\r!06\r".to_vec())));
+}
+
+/// A full rack in which everyone speaks after a field with three of the longest answers.
+#[test]
+fn the_longest_output_of_a_field_fits() {
+    let mut rack = Rack::fit(&[11; 31]).expect("a good list");
+    rack.call(b"\x05\x00\x05\x1E\xFF\xFF\x00\x00", 512).expect("accepted");
+    let mut serial = |text: &str| {
+        let field = [&[1, 0, text.len() as u8], text.as_bytes()].concat();
+        rack.call(&field, 512).expect("accepted").1
+    };
+    for slot in 0..31 {
+        serial(&format!("ADR {slot}\rSENA 01\r"));
+    }
+    serial("GPV 628.5714\r");
+    serial("GOUT 1\r");
+    serial("GPC 1.001");
+    let said = serial("\rSTT?\rSTT?\rSTT?\r");
+    let status = "MV(786.4200),PV(628.5714),MC(0.000),PC(1.001),SR(05),FR(00)\r";
+    let messages: String = (0..31).map(|slot| format!("!{slot:02}\r")).collect();
+    assert_eq!(said, [status.repeat(3), messages].concat().as_bytes());
+    assert_eq!(said.len(), 3 * 60 + 31 * 4);
+}
+
+#[test]
 fn a_refused_call_leaves_the_rack() {
     let mut rack = rack_with_model_0_in_slot_6();
     rack.call(b"\x01\x00\x08ADR 6\rPV", 512).expect("accepted");

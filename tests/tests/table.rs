@@ -37,6 +37,23 @@ fn a_line_without_a_reply_says_so() {
 }
 
 #[test]
+fn a_message_stands_at_the_step_that_brought_it() {
+    assert_table(
+        "fit 6 0\nfit 7 0\nline ADR 7\nline FENA 40\nline ADR 6\nline FENA 40\nline GOUT 1\nline GOUT 0",
+        &[
+            "3 line ADR 7 OK slot 7 off (ordered off)",
+            "4 line FENA 40 OK slot 7 off (ordered off)",
+            "5 line ADR 6 OK slot 6 off (ordered off)",
+            "6 line FENA 40 OK slot 6 off (ordered off)",
+            "7 line GOUT 1 (no reply) slot 6 ON",
+            "slot 7 ON",
+            "8 line GOUT 0 !06 slot 6 off (ordered off)",
+            "!07 slot 7 off (ordered off)",
+        ],
+    );
+}
+
+#[test]
 fn a_sample_shows_its_counts_and_readings() {
     let off = "slot 6 off (ordered off); reads 5.5000 V, 10.000 A (counts 45834, 5000)";
     assert_table(

@@ -4,8 +4,8 @@
 use std::collections::HashSet;
 use std::fs;
 
-use rack_tests::supply::{Event, Order, LINE_BITS, MODELS};
-use rack_tests::trial::{Act, Trial, QUERIES};
+use rack_tests::supply::{Event, Order, Query, Supply, LINE_BITS, MODELS, SENA_BITS};
+use rack_tests::trial::{Act, Expected, Trial, QUERIES};
 use rack_tests::trials;
 
 const TABLE: &str = concat!(env!("CARGO_MANIFEST_DIR"), "/../crates/trials/stdin");
@@ -38,6 +38,7 @@ fn every_trial_keeps_limits_and_margins() {
             assert!(supply.within_limits(), "{supply:?} {act:?}");
             assert!(supply.lines & !LINE_BITS == 0, "{supply:?} {act:?}");
             assert!(supply.armed || !supply.fold_trip, "{supply:?} {act:?}");
+            assert!((supply.sena | supply.seve) & !SENA_BITS == 0, "{supply:?} {act:?}");
         }
     }
 }
@@ -53,6 +54,7 @@ fn kind(act: Act) -> String {
         Act::Order(Order::Ovp(_)) => "OVP".into(),
         Act::Order(Order::Uvl(_)) => "UVL".into(),
         Act::Order(Order::Fena(_)) => "FENA".into(),
+        Act::Order(Order::Sena(_)) => "SENA".into(),
         other => format!("{other:?}"),
     }
 }
@@ -63,8 +65,9 @@ fn every_kind_of_act_is_tried_in_every_mode() {
     let kinds: HashSet<String> = all.iter().map(|trial| kind(trial.act)).collect();
     let met = |trial: &Trial| format!("{} in {:?}", kind(trial.act), trial.before.mode);
     let modes: HashSet<String> = all.iter().map(met).collect();
-    // 3 keys, 4 knobs, lines, samples; PV PC OVP UVL OVM; OUT FLD AST; RMT; FENA CLS RST; nothing.
-    let known = 3 + 4 + 2 + 5 + 3 * 2 + 3 + 3 + QUERIES.len() + 1;
+    // 3 keys, 4 knobs, lines, samples; PV PC OVP UVL OVM; OUT FLD AST; RMT; FENA SENA CLS RST;
+    // nothing.
+    let known = 3 + 4 + 2 + 5 + 3 * 2 + 3 + 4 + QUERIES.len() + 1;
     assert_eq!((kinds.len(), modes.len()), (known, 3 * known), "{kinds:?}");
 }
 
@@ -88,5 +91,87 @@ fn every_model_meets_every_code_of_its_limits() {
                 assert!(met.contains(&wanted), "{wanted:?} is not tried");
             }
         }
+    }
+}
+
+/// Each bit of STAT rises, stands and falls, enabled in SENA and not, and is in SEVE before or not.
+#[test]
+fn every_bit_of_stat_rises_enabled_and_not() {
+    let mut met = HashSet::new();
+    for trial in trials::all() {
+        let (before, after) = (&trial.before, trial.expected().after);
+        for bit in (0..8).map(|bit| 1 << bit) {
+            let was = |byte: u8| byte & bit != 0;
+            let way = (was(before.stat()), was(after.stat()));
+            met.insert((bit, way, was(before.sena), was(before.seve)));
+        }
+    }
+    for bit in [0x01, 0x02, 0x04, 0x08, 0x10, 0x20, 0x80_u8] {
+        for way in [(false, true), (true, true), (true, false), (false, false)] {
+            for (enabled, noted) in [(false, false), (false, true), (true, false), (true, true)] {
+                let never = bit & !SENA_BITS != 0 && (enabled || noted);
+                let wanted = (bit, way, enabled, noted);
+                assert!(never != met.contains(&wanted), "{wanted:?}");
+            }
+        }
+    }
+    assert!(!met.iter().any(|(bit, (before, after), ..)| *bit == 0x40 && (*before || *after)));
+}
+
+/// What clears is tried where both registers hold something and bit 2 is enabled.
+#[test]
+fn every_clearing_act_meets_what_it_clears() {
+    let full = |supply: &Supply| supply.feve > 0 && supply.seve > 0 && supply.sena & 0x04 > 0;
+    for act in [
+        Act::Order(Order::Cls),
+        Act::Order(Order::Rst),
+        Act::Query(Query::Feve),
+        Act::Query(Query::Seve),
+    ] {
+        let tried = trials::all().into_iter().filter(|trial| trial.act == act);
+        let tried: Vec<Trial> = tried.filter(|trial| full(&trial.before)).collect();
+        assert!(tried.len() >= 10, "{act:?}: {}", tried.len());
+        for trial in tried {
+            let after = trial.expected().after;
+            let kept = match act {
+                Act::Query(Query::Feve) => (0, trial.before.seve | 0x04),
+                Act::Query(Query::Seve) => (trial.before.feve, 0),
+                _ => (0, 0),
+            };
+            assert_eq!((after.feve, after.seve), kept, "{trial:?}");
+        }
+    }
+}
+
+/// STAT bit by bit, from what the queries answer.
+fn told(supply: &Supply) -> [bool; 8] {
+    let says = |query: Query, word: &str| supply.clone().ask(query).to_string() == word;
+    let quiet = says(Query::Feve, "00");
+    let [cv, cc] = ["CV", "CC"].map(|word| says(Query::Mode, word));
+    let [ast, armed] = [Query::Ast, Query::Fld].map(|query| says(query, "ON"));
+    [cv, cc, quiet, !quiet, ast, armed, false, says(Query::Rmt, "LOC")]
+}
+
+/// The registers after each act, worked out a second time from the states before and after it.
+#[test]
+fn registers_gain_what_the_queries_tell() {
+    for trial in trials::all() {
+        let Expected { code, after, .. } = trial.expected();
+        let before = &trial.before;
+        let bits = |bits: [bool; 8]| (0..8).map(|bit| u8::from(bits[bit]) << bit).sum::<u8>();
+        assert_eq!(before.stat(), bits(told(before)), "{trial:?}");
+        let mut risen = told(&after);
+        risen.iter_mut().zip(told(before)).for_each(|(now, was)| *now &= !was);
+        let faults = (0..8).filter(|bit| after.flt() >> bit & 1 > before.flt() >> bit & 1);
+        let faults: u8 = faults.map(|bit| 1 << bit).sum();
+        let (mut feve, mut seve) = (before.feve, before.seve);
+        match trial.act {
+            _ if code.is_some() => {}
+            Act::Order(Order::Cls | Order::Rst) => (feve, seve) = (0, 0),
+            Act::Query(Query::Seve) => seve = 0,
+            Act::Query(Query::Feve) => (feve, seve) = (0, seve | bits(risen) & before.sena),
+            _ => (feve, seve) = (feve | faults & before.fena, seve | bits(risen) & before.sena),
+        }
+        assert_eq!((after.feve, after.seve), (feve, seve), "{trial:?}");
     }
 }

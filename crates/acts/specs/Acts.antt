@@ -5,13 +5,13 @@ use lib.Dec.{eqb}
 use Rattle.base.specs.Choice.{pick}
 use Rattle.supply.specs.declared.Supply.{Supply}
 use Rattle.supply.specs.declared.Order.{Order}
-use Rattle.supply.specs.declared.Order.the-variants.{Set, Ovm, Out, Fld, Ast, Rmt, Fena, Cls, Rst}
+use Rattle.supply.specs.declared.Order.the-variants.{Set, Ovm, Out, Fld, Ast, Rmt, Fena, Sena, Cls, Rst}
 use Rattle.supply.specs.declared.Query.{Query}
 use Rattle.supply.specs.declared.Query.the-variants as query
 use Rattle.supply.specs.declared.Act.{Act}
 use Rattle.supply.specs.declared.Act.the-variants.{Lines, Sample, Press, Turn, Obey, Ask, Nothing}
-use Rattle.supply.specs.With.{withFeve}
-use Rattle.supply.specs.Flt.{settled}
+use Rattle.supply.specs.With.{withFeve, withSeve}
+use Rattle.supply.specs.Registers.{settled}
 use Rattle.samples.specs.Samples.{sampled}
 use Rattle.events.specs.Events.{linesChanged, pressed, turned}
 use Rattle.codes.specs.Codes.{orderCode}
@@ -27,24 +27,28 @@ codeOf m s (Obey o) = orderCode m s o
 codeOf m s (Ask q) = 0
 codeOf m s Nothing = 0
 
--- FEVE? clears FEVE; the other queries change nothing
-unfoldable pub clearingQuery : Query → Bool
-clearingQuery query.Feve = true
-clearingQuery query.Pv = false
-clearingQuery query.Pc = false
-clearingQuery query.Ovp = false
-clearingQuery query.Uvl = false
-clearingQuery query.Mv = false
-clearingQuery query.Mc = false
-clearingQuery query.Out = false
-clearingQuery query.Fld = false
-clearingQuery query.Ast = false
-clearingQuery query.Rmt = false
-clearingQuery query.Mode = false
-clearingQuery query.Flt = false
-clearingQuery query.Fena = false
+-- what a query itself changes: FEVE? clears FEVE, and SEVE? clears SEVE
+unfoldable pub afterQuery : Query → Supply → Supply
+afterQuery query.Feve s = withFeve 0 s
+afterQuery query.Seve s = withSeve 0 s
+afterQuery query.Pv s = s
+afterQuery query.Pc s = s
+afterQuery query.Ovp s = s
+afterQuery query.Uvl s = s
+afterQuery query.Mv s = s
+afterQuery query.Mc s = s
+afterQuery query.Out s = s
+afterQuery query.Fld s = s
+afterQuery query.Ast s = s
+afterQuery query.Rmt s = s
+afterQuery query.Mode s = s
+afterQuery query.Flt s = s
+afterQuery query.Fena s = s
+afterQuery query.Stt s = s
+afterQuery query.Stat s = s
+afterQuery query.Sena s = s
 
--- CLS and RST end with FEVE 0
+-- CLS and RST end with both registers 0
 unfoldable pub clearingOrder : Order → Bool
 clearingOrder Cls = true
 clearingOrder Rst = true
@@ -55,22 +59,23 @@ clearingOrder (Fld b) = false
 clearingOrder (Ast b) = false
 clearingOrder (Rmt k) = false
 clearingOrder (Fena b) = false
+clearingOrder (Sena b) = false
 
--- FEVE is set to 0 if the test is true
+-- FEVE and SEVE are set to 0 if the test is true
 abbrev pub cleared : Bool → Supply → Supply
-cleared t s = pick t (withFeve 0 s) s
+cleared t s = pick t (withSeve 0 (withFeve 0 s)) s
 
--- first stage: what the act itself does, before FEVE gains any bit
+-- first stage: what the act itself does, before the registers gain any bit
 unfoldable pub acted : ℕ → Supply → Act → Supply
 acted m s (Lines b) = linesChanged s b
 acted m s (Sample v a) = sampled m s v a
 acted m s (Press k) = pressed s k
 acted m s (Turn t raw) = turned m s t raw
 acted m s (Obey o) = ordered m s o
-acted m s (Ask q) = cleared (clearingQuery q) s
+acted m s (Ask q) = afterQuery q s
 acted m s Nothing = s
 
--- third stage, after `settled`: CLS and RST close with FEVE 0
+-- third stage, after `settled`: CLS and RST close with both registers 0
 unfoldable pub clearingAct : Act → Bool
 clearingAct (Obey o) = clearingOrder o
 clearingAct (Lines b) = false
@@ -86,4 +91,4 @@ closed a s = cleared (clearingAct a) s
 -- AN EVENT, as the paper calls it, and what it leaves: an act that is not refused, in its three stages.
 -- A refused act is no event and changes nothing.
 unfoldable pub performed : ℕ → Supply → Act → Supply
-performed m s a = pick (eqb (codeOf m s a) 0) (closed a (settled s (acted m s a))) s
+performed m s a = pick (eqb (codeOf m s a) 0) (closed a (settled m s (acted m s a))) s

@@ -1,9 +1,10 @@
 // Layer supply.
-// The answers to queries: a figure, a word or a byte, from the supply as it stands.
+// The answers to queries: a figure, a word, a byte or a whole status, from the supply as it stands.
 ghost use mathlib.Core.Path.{_≡_};
-ghost use Rattle.answers.specs.Answers.{switchOf, modeWord, running, answerOf};
+ghost use Rattle.answers.specs.Answers.{switchOf, modeWord, running, statusOf, answerOf};
 use supply::Query;
 use supply::QueryAnswer;
+use supply::Status;
 use supply::Supply;
 use supply::Word;
 
@@ -39,6 +40,26 @@ fn running_word(model: u8, s: Supply) -> Word
     }
 }
 
+// What STT? tells.
+fn status_of(model: u8, s: Supply) -> Status
+    ensures { λ r. ⌜ r ≡ statusOf model s ⌝ }
+{
+    let volts = models::volt_reading(model, s.volt_count);
+    let pv = s.pv as u64;
+    let amps = models::amp_reading(model, s.amp_count);
+    let pc = s.pc as u64;
+    let stat = supply::stat(model, s);
+    let flt = supply::flt(s);
+    Status {
+        volts,
+        pv,
+        amps,
+        pc,
+        stat,
+        flt,
+    }
+}
+
 // The answer to a query, from the supply as it stands before the query.
 pub fn answer_to(model: u8, s: Supply, q: Query) -> QueryAnswer
     ensures { λ r. ⌜ r ≡ answerOf model s q ⌝ }
@@ -58,5 +79,9 @@ pub fn answer_to(model: u8, s: Supply, q: Query) -> QueryAnswer
         Query::Flt => QueryAnswer::Hex(supply::flt(s)),
         Query::Fena => QueryAnswer::Hex(s.fena),
         Query::Feve => QueryAnswer::Hex(s.feve),
+        Query::Stt => QueryAnswer::Tells(status_of(model, s)),
+        Query::Stat => QueryAnswer::Hex(supply::stat(model, s)),
+        Query::Sena => QueryAnswer::Hex(s.sena),
+        Query::Seve => QueryAnswer::Hex(s.seve),
     }
 }

@@ -8,7 +8,7 @@ use Rattle.words.specs.Words.{Row, findWord}
 use Rattle.supply.specs.declared.Target.{Target}
 use Rattle.supply.specs.declared.Target.the-variants as target
 use Rattle.supply.specs.declared.Order.{Order}
-use Rattle.supply.specs.declared.Order.the-variants.{Set, Ovm, Out, Fld, Ast, Rmt, Fena, Cls, Rst}
+use Rattle.supply.specs.declared.Order.the-variants.{Set, Ovm, Out, Fld, Ast, Rmt, Fena, Sena, Cls, Rst}
 use Rattle.supply.specs.declared.Query.{Query}
 use Rattle.supply.specs.declared.Query.the-variants as query
 use Rattle.supply.specs.declared.Act.the-variants.{Obey, Ask}
@@ -26,6 +26,7 @@ pub data OrderWord : Type 0 where
   ast : OrderWord
   rmt : OrderWord
   fena : OrderWord
+  sena : OrderWord
   cls : OrderWord
   rst : OrderWord
 
@@ -45,6 +46,7 @@ kindOfOrder fld = switch 1
 kindOfOrder ast = switch 1
 kindOfOrder rmt = switch 2
 kindOfOrder fena = hex
+kindOfOrder sena = hex
 kindOfOrder cls = bare
 kindOfOrder rst = bare
 
@@ -57,6 +59,7 @@ orderWith fld v = Fld (eqb v 1)
 orderWith ast v = Ast (eqb v 1)
 orderWith rmt v = Rmt v
 orderWith fena v = Fena v
+orderWith sena v = Sena v
 orderWith cls v = Cls
 orderWith rst v = Rst
 
@@ -103,6 +106,7 @@ commands =
     (codes "AST", toOne ast) ∷
     (codes "RMT", toOne rmt) ∷
     (codes "FENA", toOne fena) ∷
+    (codes "SENA", toOne sena) ∷
     (codes "CLS", toOne cls) ∷
     (codes "RST", toOne rst) ∷
     (codes "PV?", ofOne query.Pv) ∷
@@ -119,6 +123,10 @@ commands =
     (codes "FLT?", ofOne query.Flt) ∷
     (codes "FENA?", ofOne query.Fena) ∷
     (codes "FEVE?", ofOne query.Feve) ∷
+    (codes "STT?", ofOne query.Stt) ∷
+    (codes "STAT?", ofOne query.Stat) ∷
+    (codes "SENA?", ofOne query.Sena) ∷
+    (codes "SEVE?", ofOne query.Seve) ∷
     (codes "ADR", selecting) ∷
     (codes "GPV", toAll (set target.Pv)) ∷
     (codes "GPC", toAll (set target.Pc)) ∷

@@ -2,10 +2,11 @@
 // What a line asks, by its word and its parameter: an order, a query, an address to select, or an error code.
 ghost use mathlib.Core.Path.{_≡_};
 ghost use Prim.Native.Nat.{_≤_};
+ghost use Rattle.base.specs.Choice.{pick};
 ghost use Rattle.words.specs.Words.{findNumber};
 ghost use Rattle.parameters.specs.Parameters.{bare, number, parameterOf};
-ghost use Rattle.asks.specs.Words.{set, out, fld, ast, rmt, fena, toOne, ofOne, toAll, selecting, unknownWord};
-ghost use Rattle.asks.specs.Words.{commands, oneOrder, allOrder, askedWith, askedBy};
+ghost use Rattle.asks.specs.Words.{set, out, fld, ast, rmt, fena, sena, toOne, ofOne, toAll, selecting};
+ghost use Rattle.asks.specs.Words.{unknownWord, commands, oneOrder, allOrder, askedWith, askedBy};
 ghost use Rattle.asks.specs.Asked.{asksOf};
 use supply::Act;
 use supply::Order;
@@ -99,11 +100,17 @@ fn rmt_one(x: &[u8]) -> Asks
     one_order(Order::Rmt(p.value as u8), p.code)
 }
 
-fn fena_one(x: &[u8]) -> Asks
-    ensures { λ r. ⌜ r ≡ askedBy (toOne fena) (now (x .entry)) ⌝ }
+// The byte of an enable register: SENA's if it is that of the status bits, otherwise FENA's.
+fn enable_one(status: bool, x: &[u8]) -> Asks
+    ensures { λ r. ⌜ r ≡ askedBy (toOne (pick status sena fena)) (now (x .entry)) ⌝ }
 {
     let p = parameters::hex_parameter(x);
-    one_order(Order::Fena(p.value as u8), p.code)
+    let byte = p.value as u8;
+    if status {
+        one_order(Order::Sena(byte), p.code)
+    } else {
+        one_order(Order::Fena(byte), p.code)
+    }
 }
 
 fn bare_one(o: Order, x: &[u8]) -> Asks
@@ -163,6 +170,8 @@ const RMT: u64 = 0x1_52_4d_54;
 
 const FENA: u64 = 0x1_46_45_4e_41;
 
+const SENA: u64 = 0x1_53_45_4e_41;
+
 const CLS: u64 = 0x1_43_4c_53;
 
 const RST: u64 = 0x1_52_53_54;
@@ -195,6 +204,14 @@ const FENA_ASKED: u64 = 0x1_46_45_4e_41_3f;
 
 const FEVE_ASKED: u64 = 0x1_46_45_56_45_3f;
 
+const STT_ASKED: u64 = 0x1_53_54_54_3f;
+
+const STAT_ASKED: u64 = 0x1_53_54_41_54_3f;
+
+const SENA_ASKED: u64 = 0x1_53_45_4e_41_3f;
+
+const SEVE_ASKED: u64 = 0x1_53_45_56_45_3f;
+
 const ADR: u64 = 0x1_41_44_52;
 
 const GPV: u64 = 0x1_47_50_56;
@@ -219,7 +236,8 @@ fn asks_of_word(word: u64, x: &[u8]) -> Asks
         FLD => fld_one(x),
         AST => ast_one(x),
         RMT => rmt_one(x),
-        FENA => fena_one(x),
+        FENA => enable_one(false, x),
+        SENA => enable_one(true, x),
         CLS => bare_one(Order::Cls, x),
         RST => bare_one(Order::Rst, x),
         PV_ASKED => query_one(Query::Pv, x),
@@ -236,6 +254,10 @@ fn asks_of_word(word: u64, x: &[u8]) -> Asks
         FLT_ASKED => query_one(Query::Flt, x),
         FENA_ASKED => query_one(Query::Fena, x),
         FEVE_ASKED => query_one(Query::Feve, x),
+        STT_ASKED => query_one(Query::Stt, x),
+        STAT_ASKED => query_one(Query::Stat, x),
+        SENA_ASKED => query_one(Query::Sena, x),
+        SEVE_ASKED => query_one(Query::Seve, x),
         ADR => select_one(x),
         GPV => set_all(Target::Pv, 4, x),
         GPC => set_all(Target::Pc, 3, x),

@@ -1,9 +1,10 @@
 // Layer calls.
-// One call on a rack: works or refuses the first field of the lent bytes, and writes its replies.
+// One call on a rack: works or refuses the first field of the lent bytes, and writes its replies and the service
+// messages after them.
 ghost use Rattle.calls.specs.Calls.{CallDoes};
 use slots::Rack;
 
-// The byte that ends each line of a reply.
+// The byte that ends each reply and each message.
 const CR: u8 = 13;
 
 // What a call returns: code 0, the rack after the field, the bytes used and the length of the reply; or the number of a
@@ -15,7 +16,7 @@ pub struct Answer {
     pub length: usize,
 }
 
-// One call: works the first field of the lent bytes and writes its replies to the start of the buffer.
+// One call: works the first field of the lent bytes and writes its replies and messages to the start of the buffer.
 pub fn call(r: Rack, bytes: &[u8], reply: &mut [u8]) -> Answer
     ensures { λ a. ⌜ CallDoes r (now (bytes .entry)) (now (reply .entry)) a (now (reply .exit)) ⌝ }
 {

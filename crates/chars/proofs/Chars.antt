@@ -15,15 +15,16 @@ use Rattle.serial.specs.View as serial
 use Rattle.serial.specs.View.{wireOf, Short}
 use Rattle.wire.proofs.Stream.{on-other}
 use Rattle.serial.proofs.Chars.{char-keeps}
+use Rattle.protocol.specs.SentBack.{rate}
 use Rattle.slots.specs.View.{due}
 use Rattle.chars.specs.Chars.{Typing}
 
 stays : (w : Wire) (x : ℕ) → charOn w x .sel ≡ w .sel
 stays w x = char-keeps (λ v. v .sel ≡ w .sel) w x refl refl refl refl
 
-char-due : (w : Wire) (x : ℕ) → due (charOn w x) ≤ due w + 3
+char-due : (w : Wire) (x : ℕ) → due (charOn w x) ≤ due w + rate
 char-due w x =
-    char-keeps (λ v. due v ≤ due w + 3) w x
+    char-keeps (λ v. due v ≤ due w + rate) w x
     (omega arith)
     (omega (arith, length-take (length (w .kept) - 1) (w .kept)))
     (omega (arith, length-append (w .kept) (x ∷ [])))

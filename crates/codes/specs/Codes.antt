@@ -9,7 +9,7 @@ use Rattle.supply.specs.declared.Supply.{Supply}
 use Rattle.supply.specs.declared.Target.{Target}
 use Rattle.supply.specs.declared.Target.the-variants.{Pv, Pc, Ovp, Uvl}
 use Rattle.supply.specs.declared.Order.{Order}
-use Rattle.supply.specs.declared.Order.the-variants.{Set, Ovm, Out, Fld, Ast, Rmt, Fena, Cls, Rst}
+use Rattle.supply.specs.declared.Order.the-variants.{Set, Ovm, Out, Fld, Ast, Rmt, Fena, Sena, Cls, Rst}
 use Rattle.supply.specs.State.{c05, e01, e02, e04, e06, e07}
 use Rattle.supply.specs.Flt.{linesClear}
 
@@ -45,5 +45,6 @@ orderCode m s (Fld b) = 0
 orderCode m s (Ast b) = 0
 orderCode m s (Rmt k) = 0
 orderCode m s (Fena b) = 0
+orderCode m s (Sena b) = 0
 orderCode m s Cls = 0
 orderCode m s Rst = 0

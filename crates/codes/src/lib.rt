@@ -114,6 +114,7 @@ pub fn order_code(model: u8, s: Supply, o: Order) -> u8
         Order::Ast(_) => 0,
         Order::Rmt(_) => 0,
         Order::Fena(_) => 0,
+        Order::Sena(_) => 0,
         Order::Cls => 0,
         Order::Rst => 0,
     }

@@ -1,7 +1,7 @@
 // Layer outside.
-// The program: reads a fitting list and then fields from standard input, and writes their replies to standard output
-// with LF at the end of each line. It replies to a field as soon as the field's last byte is there. It prints a refusal
-// and ends.
+// The program: reads a fitting list and then fields from standard input, and writes their replies and messages to
+// standard output with LF at the end of each line. It replies to a field as soon as the field's last byte is there. It
+// prints a refusal and ends.
 ghost use mathlib.Core.Path.{_≡_};
 ghost use lib.ListN.{length};
 ghost use Rattle.slots.specs.View.{Able};

@@ -27,7 +27,7 @@ const LINE: usize = 64;
 const LINE_ROOM: usize = 80;
 
 // Room for one reply.
-const REPLY_ROOM: usize = 64;
+const REPLY_ROOM: usize = 80;
 
 // Models are numbered below this.
 const MODELS: u64 = 12;

@@ -3,12 +3,12 @@
 use Prim.Native.Nat.{ℕ, suc, _+_}
 use mathlib.Core.Path.{_≡_, refl, ap, _∙_}
 use mathlib.Core.Bool.{Bool}
-use mathlib.Core.List.{List, [], _++_, append-nil, append-assoc}
+use mathlib.Core.List.{List, [], _++_, append-assoc}
 use native.Mathlib.Nat.{add-zero, add-assoc}
 use lib.ListN.{length, drop}
 use Rattle.base.specs.Choice.{pick}
 use Rattle.wire.specs.Wire.{Item, Parsed, refuse, accept, fitted, Sent, scan, parse}
-use Rattle.wire.specs.Rack.{refused, done, callOf, moved, replies, drawnSince}
+use Rattle.wire.specs.Rack.{refused, done, callOf, moved, replies, messages, drawnSince}
 use Rattle.wire.specs.Rack as wire
 use Rattle.wire.proofs.Stream.{scan-append}
 use Rattle.wire.proofs.Calls.{moved-twice}
@@ -47,7 +47,12 @@ onward-new n stop s v used said = ap (afterField (fieldsFrom n stop s) stop v us
 module _ (ss : List Supply) (v q : wire.Rack Supply) (is : List Item) (e : q ≡ moved plainSupply v (sentBy v is)) where
   split : (n : ℕ) (js : List Item) → answerSince ss v (accept n (is ++ js)) ≡ done (moved plainSupply q (sentBy q js)) n (drawn v is ++ drawnSince plainSupply ss q (sentBy q js))
   split n js =
-      rw (e, scan-append grammar (v .setup) (v .wire) is js, moved-twice plainSupply v (sentBy v is) (scan grammar (v .setup) (sentBy v is .wire) js), replies-append plainSupply (v .setup) (v .slots) (sentBy v is .sent) (scan grammar (v .setup) (sentBy v is .wire) js .sent), append-assoc) refl
+      let first : Sent = sentBy v is in
+      let then : Sent = scan grammar (v .setup) (first .wire) js in
+      let drew : List ℕ = replies plainSupply (v .setup) (v .slots) (first .sent ++ then .sent) in
+      ap (λ (s : Sent). done (moved plainSupply v s) n (drawnSince plainSupply ss v s)) (scan-append grammar (v .setup) (v .wire) is js)
+      ∙ ap (λ (r : wire.Rack Supply). done r n (drew ++ messages plainSupply ss (r .slots))) (moved-twice plainSupply v first then)
+      ∙ rw (e, replies-append plainSupply (v .setup) (v .slots) (first .sent) (then .sent), append-assoc) refl
 
   module _ (go : wire.Rack Supply → ℕ → List ℕ → Ran) (stop : ℕ → Bool) (used : ℕ) (said : List ℕ) (n : ℕ) where
     -- some of the field is left
@@ -56,6 +61,8 @@ module _ (ss : List Supply) (v q : wire.Rack Supply) (is : List Item) (e : q ≡
         ap (afterField go stop v used said) (split (n + left) js)
         ∙ rw (← append-assoc said (drawn v is) (drawnSince plainSupply ss q (sentBy q js)), ← add-assoc used n left) refl
 
-    -- none is left, and the slots add what they add: today nothing
-    pub after-all : afterField go stop v used said (answerSince ss v (accept (n + 0) (is ++ []))) ≡ pick (stop (length (said ++ drawn v is))) (ran q (used + n) (said ++ drawn v is) 0) (go q (used + n) (said ++ drawn v is))
-    after-all = ap (afterField go stop v used said) (split (n + 0) []) ∙ rw (append-nil, add-zero) refl
+    -- none is left, and the messages follow
+    pub after-all : afterField go stop v used said (answerSince ss v (accept (n + 0) (is ++ []))) ≡ pick (stop (length ((said ++ drawn v is) ++ messages plainSupply ss (q .slots)))) (ran q (used + n) ((said ++ drawn v is) ++ messages plainSupply ss (q .slots)) 0) (go q (used + n) ((said ++ drawn v is) ++ messages plainSupply ss (q .slots)))
+    after-all =
+        ap (afterField go stop v used said) (split (n + 0) [])
+        ∙ rw (← append-assoc said (drawn v is) (messages plainSupply ss (q .slots)), add-zero) refl

@@ -1,3 +1,4 @@
 pub mod Repeats
 pub mod Worked
 pub mod Moved
+pub mod Senders

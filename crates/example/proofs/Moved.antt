@@ -11,11 +11,13 @@ use Rattle.figures.specs.Digits.{allDigits, runValue}
 use Rattle.figures.specs.Number.{firstAt, wellFormed, wholeUnits, scaledValue, readNumber}
 use Rattle.hex.specs.Hex.{isHex, hexOf, readHex}
 use Rattle.supply.specs.State.{fresh}
-use Rattle.supply.specs.Flt.{fltOf, onOf, linesClear, inLimit, settled}
+use Rattle.supply.specs.Flt.{fltOf, onOf, linesClear, inLimit}
+use Rattle.supply.specs.Stat.{statOf}
+use Rattle.supply.specs.Registers.{feveGained, seveGained, settled}
 use Rattle.settings.specs.Settings.{settingOf, withSetting, leastOf, mostOf, signedOf, nearestIn, stepped}
 use Rattle.samples.specs.Samples.{sampled}
 use Rattle.events.specs.Events.{turnedOn, disarmed, pressed, turned}
-use Rattle.acts.specs.Acts.{codeOf, clearingQuery, clearingOrder, clearingAct, acted, performed}
+use Rattle.acts.specs.Acts.{codeOf, afterQuery, clearingOrder, clearingAct, acted, performed}
 use Rattle.words.specs.Words.{findWord}
 use Rattle.parameters.specs.Parameters.{readAs, parameterOf}
 use Rattle.asks.specs.Words.{askedBy}
@@ -55,7 +57,7 @@ unfolding shareAt
 addresses-only = refl
 
 end-here : plain plainSupply 0 (shareAt 6) ≡ foldedBack
-unfolding shareAt foldedBack stepOf actOf pressOf turnOf heardOf asksOf rightChecksum askedBy parameterOf readAs findWord obeyed performed acted clearingQuery clearingOrder clearingAct codeOf sampled turnedOn disarmed pressed turned stepped nearestIn signedOf leastOf mostOf withSetting settingOf settled onOf linesClear inLimit fltOf fresh voltReading ampReading limitsOf table firstAt
+unfolding shareAt foldedBack stepOf actOf pressOf turnOf heardOf asksOf rightChecksum askedBy parameterOf readAs findWord obeyed performed acted afterQuery clearingOrder clearingAct codeOf sampled turnedOn disarmed pressed turned stepped nearestIn signedOf leastOf mostOf withSetting settingOf settled feveGained seveGained statOf onOf linesClear inLimit fltOf fresh voltReading ampReading limitsOf table firstAt
 end-here = refl
 
 -- the address in the first entry of a share

@@ -9,13 +9,15 @@ use Rattle.figures.specs.Number.{firstAt, wellFormed, wholeUnits, scaledValue, 
 use Rattle.hex.specs.Hex.{isHex, hexOf, readHex, hexPair, total, checksum}
 use Rattle.prints.specs.Figure.{fixed, shortest, decimals, figure}
 use Rattle.supply.specs.State.{fresh}
-use Rattle.supply.specs.Flt.{fltOf, onOf, linesClear, inLimit, settled}
+use Rattle.supply.specs.Flt.{fltOf, onOf, linesClear, inLimit}
+use Rattle.supply.specs.Stat.{statOf}
+use Rattle.supply.specs.Registers.{feveGained, seveGained, settled}
 use Rattle.settings.specs.Settings.{settingOf, withSetting, leastOf, mostOf, signedOf, nearestIn, stepped}
 use Rattle.samples.specs.Samples.{sampled}
 use Rattle.events.specs.Events.{anyRises, falls, linesChanged, turnedOn, disarmed, pressed, turned}
 use Rattle.codes.specs.Codes.{setCode, orderCode}
 use Rattle.orders.specs.Orders.{remote, remoteBy, outDone, fldDone, reset, ordered}
-use Rattle.acts.specs.Acts.{codeOf, clearingQuery, clearingOrder, clearingAct, acted, performed}
+use Rattle.acts.specs.Acts.{codeOf, afterQuery, clearingOrder, clearingAct, acted, performed}
 use Rattle.answers.specs.Answers.{modeWord, answerOf}
 use Rattle.guarantees.specs.Releases.{ovp, releases}
 use Rattle.words.specs.Words.{findWord}
@@ -54,11 +56,11 @@ unfolding listAlone alone shareTripping shareTripped shareReleased brought share
 share-alone = refl
 
 replies : answers (freshRack plainSupply (setupOf fittingList)) calls ≡ workedAnswers
-unfolding fittingList calls tripping tripped released workedAnswers callOf byteOn charOn parse readField headerCode lengthFits valuesFit classOf heardOf asksOf rightChecksum askedBy parameterOf readAs findWord readNumber scaledValue wholeUnits wellFormed firstAt runValue allDigits readHex hexOf isHex stepOf replyTo obeyed repliedTo saidOf codeText wordText answerText ending answerOf modeWord pressOf actOf performed acted clearingQuery clearingOrder clearingAct codeOf ordered reset outDone fldDone remote remoteBy orderCode setCode sampled linesChanged anyRises falls bitAt pressed disarmed turnedOn turned stepped nearestIn signedOf leastOf mostOf withSetting settingOf settled onOf linesClear inLimit fltOf fresh figure decimals shortest fixed checksum total hexPair voltReading ampReading limitsOf table
+unfolding fittingList calls tripping tripped released workedAnswers callOf byteOn charOn parse readField headerCode lengthFits valuesFit classOf heardOf asksOf rightChecksum askedBy parameterOf readAs findWord readNumber scaledValue wholeUnits wellFormed firstAt runValue allDigits readHex hexOf isHex stepOf replyTo obeyed repliedTo saidOf codeText wordText answerText ending answerOf modeWord pressOf actOf performed acted afterQuery clearingOrder clearingAct codeOf ordered reset outDone fldDone remote remoteBy orderCode setCode sampled linesChanged anyRises falls bitAt pressed disarmed turnedOn turned stepped nearestIn signedOf leastOf mostOf withSetting settingOf settled feveGained seveGained statOf onOf linesClear inLimit fltOf fresh figure decimals shortest fixed checksum total hexPair voltReading ampReading limitsOf table
 replies = refl
 
 end-6 : plain plainSupply 0 (shareTripping ++ shareTripped ++ shareReleased) ≡ endState
-unfolding shareTripping shareTripped shareReleased endState classOf heardOf asksOf rightChecksum askedBy parameterOf readAs findWord readNumber scaledValue wholeUnits wellFormed firstAt runValue allDigits readHex hexOf isHex stepOf replyTo obeyed repliedTo saidOf codeText wordText answerText ending answerOf modeWord pressOf actOf performed acted clearingQuery clearingOrder clearingAct codeOf ordered reset outDone fldDone remote remoteBy orderCode setCode sampled linesChanged anyRises falls bitAt pressed disarmed turnedOn turned stepped nearestIn signedOf leastOf mostOf withSetting settingOf settled onOf linesClear inLimit fltOf fresh figure decimals shortest fixed checksum total hexPair voltReading ampReading limitsOf table
+unfolding shareTripping shareTripped shareReleased endState classOf heardOf asksOf rightChecksum askedBy parameterOf readAs findWord readNumber scaledValue wholeUnits wellFormed firstAt runValue allDigits readHex hexOf isHex stepOf replyTo obeyed repliedTo saidOf codeText wordText answerText ending answerOf modeWord pressOf actOf performed acted afterQuery clearingOrder clearingAct codeOf ordered reset outDone fldDone remote remoteBy orderCode setCode sampled linesChanged anyRises falls bitAt pressed disarmed turnedOn turned stepped nearestIn signedOf leastOf mostOf withSetting settingOf settled feveGained seveGained statOf onOf linesClear inLimit fltOf fresh figure decimals shortest fixed checksum total hexPair voltReading ampReading limitsOf table
 end-6 = refl
 
 on-6 : onOf endState ≡ true
@@ -66,11 +68,11 @@ unfolding endState onOf fltOf
 on-6 = refl
 
 tripped-6 : TrippedBy plainSupply trips 0 ovp (shareTripping ++ shareTripped)
-unfolding shareTripping shareTripped releasesOf releases classOf heardOf asksOf rightChecksum askedBy parameterOf readAs findWord readNumber scaledValue wholeUnits wellFormed firstAt runValue allDigits readHex hexOf isHex stepOf replyTo obeyed repliedTo saidOf codeText wordText answerText ending answerOf modeWord pressOf actOf performed acted clearingQuery clearingOrder clearingAct codeOf ordered reset outDone fldDone remote remoteBy orderCode setCode sampled linesChanged anyRises falls bitAt pressed disarmed turnedOn turned stepped nearestIn signedOf leastOf mostOf withSetting settingOf settled onOf linesClear inLimit fltOf fresh figure decimals shortest fixed checksum total hexPair voltReading ampReading limitsOf table
+unfolding shareTripping shareTripped releasesOf releases classOf heardOf asksOf rightChecksum askedBy parameterOf readAs findWord readNumber scaledValue wholeUnits wellFormed firstAt runValue allDigits readHex hexOf isHex stepOf replyTo obeyed repliedTo saidOf codeText wordText answerText ending answerOf modeWord pressOf actOf performed acted afterQuery clearingOrder clearingAct codeOf ordered reset outDone fldDone remote remoteBy orderCode setCode sampled linesChanged anyRises falls bitAt pressed disarmed turnedOn turned stepped nearestIn signedOf leastOf mostOf withSetting settingOf settled feveGained seveGained statOf onOf linesClear inLimit fltOf fresh figure decimals shortest fixed checksum total hexPair voltReading ampReading limitsOf table
 tripped-6 =
     record {
       before =
-          lineEntry "FENA 5A" ∷ lineEntry "PV 4" ∷ lineEntry "RST" ∷ lineEntry "PV?" ∷
+          lineEntry "FENA 5A" ∷ lineEntry "SENA F3" ∷ lineEntry "PV 4" ∷ lineEntry "RST" ∷ lineEntry "PV?" ∷
           lineEntry "PV 5" ∷ lineEntry "OVP 5.5" ∷ lineEntry "OUT 1" ∷ lineEntry "FENA?" ∷ field 5 (6 ∷ 179 ∷ 9 ∷ 0 ∷ 0 ∷ []) ∷ [];
       entry = field 5 (6 ∷ 179 ∷ 10 ∷ 0 ∷ 0 ∷ []);
       mid = shareTripped;
@@ -84,7 +86,7 @@ unfolding fittingList calls tripping tripped released shareNeighbour brought sha
 share-9 = refl
 
 end-9 : (onOf (plain plainSupply 3 shareNeighbour) ≡ true) × (plain plainSupply 3 shareNeighbour .pv ≡ 53000)
-unfolding shareNeighbour classOf heardOf asksOf rightChecksum askedBy parameterOf readAs findWord readNumber scaledValue wholeUnits wellFormed firstAt runValue allDigits readHex hexOf isHex stepOf replyTo obeyed repliedTo saidOf codeText wordText answerText ending answerOf modeWord pressOf actOf performed acted clearingQuery clearingOrder clearingAct codeOf ordered reset outDone fldDone remote remoteBy orderCode setCode sampled linesChanged anyRises falls bitAt pressed disarmed turnedOn turned stepped nearestIn signedOf leastOf mostOf withSetting settingOf settled onOf linesClear inLimit fltOf fresh figure decimals shortest fixed checksum total hexPair voltReading ampReading limitsOf table
+unfolding shareNeighbour classOf heardOf asksOf rightChecksum askedBy parameterOf readAs findWord readNumber scaledValue wholeUnits wellFormed firstAt runValue allDigits readHex hexOf isHex stepOf replyTo obeyed repliedTo saidOf codeText wordText answerText ending answerOf modeWord pressOf actOf performed acted afterQuery clearingOrder clearingAct codeOf ordered reset outDone fldDone remote remoteBy orderCode setCode sampled linesChanged anyRises falls bitAt pressed disarmed turnedOn turned stepped nearestIn signedOf leastOf mostOf withSetting settingOf settled feveGained seveGained statOf onOf linesClear inLimit fltOf fresh figure decimals shortest fixed checksum total hexPair voltReading ampReading limitsOf table
 end-9 = (refl, refl)
 
 pub worked-out : WorkedOut

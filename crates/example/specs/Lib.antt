@@ -1,3 +1,4 @@
 pub mod Worked
 pub mod Repeats
 pub mod Moved
+pub mod Senders

@@ -50,6 +50,8 @@ foldedBack =
       «ovp_trip» = false;
       fena = 0;
       feve = 0;
+      sena = 0;
+      seve = 0;
       «volt_count» = 40000;
       «amp_count» = 5000;
     }

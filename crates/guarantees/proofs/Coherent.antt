@@ -1,10 +1,13 @@
 -- The fresh supply is coherent, and each checked act leaves a coherent supply coherent.
 use Prim.Native.Nat.{ℕ, _≤_}
-use mathlib.Core.Path.{_≡_, refl}
-use mathlib.Core.Bool.{Bool, true, false, not, _&&_, _||_, false≢true, and-eq-true-iff}
+use mathlib.Core.Path.{_≡_, refl, _∙_}
+use mathlib.Core.Bool.{Bool, true, false, not, _&&_, _||_, false≢true, and-eq-true-iff, and-false}
 use native.Mathlib.Omega.{arith}
+use lib.Bits.{bitAnd}
 use lib.Dec.{eqb}
 use Rattle.base.specs.Choice.{pick}
+use Rattle.base.specs.Bits.{bitAt}
+use Rattle.base.proofs.Bits.{bit-and}
 use Rattle.base.proofs.Choice.{pick-keeps}
 use Rattle.models.specs.Models.{limitsOf}
 use Rattle.supply.specs.declared.Supply.{Supply}
@@ -13,28 +16,38 @@ use Rattle.supply.specs.declared.Target.the-variants.{Pv, Pc, Ovp, Uvl}
 use Rattle.supply.specs.declared.Key.{Key}
 use Rattle.supply.specs.declared.Key.the-variants.{Output, Fold, Local}
 use Rattle.supply.specs.declared.Order.{Order}
-use Rattle.supply.specs.declared.Order.the-variants.{Set, Ovm, Out, Fld, Ast, Rmt, Fena, Cls, Rst}
+use Rattle.supply.specs.declared.Order.the-variants.{Set, Ovm, Out, Fld, Ast, Rmt, Fena, Sena, Cls, Rst}
 use Rattle.supply.specs.declared.Act.{Act}
 use Rattle.supply.specs.declared.Act.the-variants.{Lines, Sample, Press, Turn, Obey, Ask, Nothing}
-use Rattle.supply.specs.With.{withFeve, withWant, withArmed, withMode, withCounts}
+use Rattle.supply.specs.With.{withFeve, withSeve, withWant, withArmed, withMode, withCounts}
 use Rattle.supply.specs.State.{fresh}
-use Rattle.supply.specs.Flt.{onOf, linesClear, inLimit, settled}
+use Rattle.supply.specs.Flt.{onOf, linesClear, inLimit}
+use Rattle.supply.specs.Registers.{feveGained, seveGained, settled}
 use Rattle.settings.specs.Settings.{withSetting, stepped}
 use Rattle.samples.specs.Samples.{reachesOvp, tripsFold, sampled}
 use Rattle.events.specs.Events.{falls, linesChanged, turnedOn, disarmed, pressed, turned}
 use Rattle.events.proofs.Cases.{lines-law, disarm-law}
-use Rattle.orders.specs.Orders.{remote, remoteBy, outDone, fldDone, reset, ordered}
-use Rattle.acts.specs.Acts.{codeOf, clearingQuery, clearingAct, cleared, acted, closed, performed}
-use Rattle.guarantees.specs.Coherent.{Listed, Agreeing, Coherent, CheckedOrder, Checked}
+use Rattle.orders.specs.Orders.{remote, remoteBy, outDone, fldDone, senaBits, reset, ordered}
+use Rattle.acts.specs.Acts.{codeOf, clearingAct, cleared, acted, closed, performed}
+use Rattle.acts.proofs.Clearing.{by-query}
+use Rattle.guarantees.specs.Coherent.{Listed, Enabling, Agreeing, Coherent, CheckedOrder, Checked}
 
 -- without a FOLD trip, ARMED has no condition to meet
-untripped : {mode lines : ℕ} {armed : Bool} → mode ≤ 2 → Listed lines → Agreeing mode lines false armed
-untripped m l = record { mode-known = m; lines-listed = l; fold-armed = λ e. absurd (false≢true e) }
+untripped : {mode lines : ℕ} {armed : Bool} {sena : ℕ} → mode ≤ 2 → Listed lines → Enabling sena → Agreeing mode lines false armed sena
+untripped m l n = record { mode-known = m; lines-listed = l; fold-armed = λ e. absurd (false≢true e); sena-kept = n }
 
 -- another mode, which is known too
-moded : {mode lines : ℕ} {fold armed : Bool} (k : ℕ) → k ≤ 2
-    → Agreeing mode lines fold armed → Agreeing k lines fold armed
-moded k m h = record { mode-known = m; lines-listed = h .lines-listed; fold-armed = h .fold-armed }
+moded : {mode lines : ℕ} {fold armed : Bool} {sena : ℕ} (k : ℕ) → k ≤ 2
+    → Agreeing mode lines fold armed sena → Agreeing k lines fold armed sena
+moded k m h = record { mode-known = m; lines-listed = h .lines-listed; fold-armed = h .fold-armed; sena-kept = h .sena-kept }
+
+-- the bits that SENA keeps are the others
+sena-bits : (b : ℕ) → Enabling (bitAnd b senaBits)
+unfolding bitAt
+sena-bits b = (dropped 4 refl, (dropped 5 refl, dropped 6 refl))
+  where
+    dropped : (k : ℕ) → bitAt k senaBits ≡ false → bitAt k (bitAnd b senaBits) ≡ false
+    dropped k e = bit-and k b senaBits ∙ rw e (and-false (bitAt k b))
 
 mode-picked : (t : Bool) (j k : ℕ) → j ≤ 2 → k ≤ 2 → pick t j k ≤ 2
 mode-picked = pick-keeps (λ (n : ℕ). n ≤ 2)
@@ -45,8 +58,8 @@ either true y armed f g e = f refl
 either false y armed f g e = g e
 
 pub fresh-coherent : (m : ℕ) → Coherent (fresh m)
-unfolding fresh
-fresh-coherent m = untripped (omega arith) refl
+unfolding fresh bitAt
+fresh-coherent m = untripped (omega arith) refl (refl, (refl, refl))
 
 abbrev C : (t : Bool) (a b : Supply) → Coherent a → Coherent b → Coherent (pick t a b)
 C = pick-keeps Coherent
@@ -60,6 +73,7 @@ module _ (s : Supply) (h : Coherent s) where
         mode-known = mode-picked (falls 1 (s .lines) b) _ (s .mode) known (h .mode-known);
         lines-listed = l;
         fold-armed = λ e. h .fold-armed (and-eq-true-iff (not (falls 1 (s .lines) b)) (s .«fold_trip») .0 e .1);
+        sena-kept = h .sena-kept;
       })
 
   sample-coherent : (m v a : ℕ) → Coherent (sampled m s v a)
@@ -75,17 +89,18 @@ module _ (s : Supply) (h : Coherent s) where
             let armed = and-eq-true-iff (not (reachesOvp m s v)) limited .0 under .1 in
             and-eq-true-iff (s .armed) (inLimit m (withCounts v a s)) .0 armed .0)
             (h .fold-armed);
+        sena-kept = h .sena-kept;
       }
 
   disarm-coherent : Coherent (disarmed s)
-  disarm-coherent = rw (← disarm-law s) (untripped (h .mode-known) (h .lines-listed))
+  disarm-coherent = rw (← disarm-law s) (untripped (h .mode-known) (h .lines-listed) (h .sena-kept))
 
   armed-coherent : Coherent (withArmed true s)
-  armed-coherent = record { mode-known = h .mode-known; lines-listed = h .lines-listed; fold-armed = λ e. refl }
+  armed-coherent = record { mode-known = h .mode-known; lines-listed = h .lines-listed; fold-armed = λ e. refl; sena-kept = h .sena-kept }
 
   turned-on-coherent : Coherent (turnedOn s)
   unfolding turnedOn
-  turned-on-coherent = untripped (h .mode-known) (h .lines-listed)
+  turned-on-coherent = untripped (h .mode-known) (h .lines-listed) (h .sena-kept)
 
   key-coherent : (k : Key) → Coherent (pressed s k)
   unfolding pressed
@@ -128,7 +143,7 @@ remote-by-coherent Uvl s h = h
 module _ (m : ℕ) where
   reset-coherent : (s : Supply) → Coherent s → Coherent (reset m s)
   unfolding reset fresh
-  reset-coherent s h = untripped (omega arith) (h .lines-listed)
+  reset-coherent s h = untripped (omega arith) (h .lines-listed) (h .sena-kept)
 
   order-coherent : (s : Supply) (o : Order) → CheckedOrder o → Coherent s → Coherent (ordered m s o)
   unfolding ordered outDone fldDone
@@ -141,11 +156,13 @@ module _ (m : ℕ) where
   order-coherent s (Ast b) c h = h
   order-coherent s (Rmt k) c h = moded k c h
   order-coherent s (Fena b) c h = h
+  order-coherent s (Sena b) c h =
+      record { mode-known = h .mode-known; lines-listed = h .lines-listed; fold-armed = h .fold-armed; sena-kept = sena-bits b }
   order-coherent s Cls c h = h
   order-coherent s Rst c h = reset-coherent s h
 
   cleared-coherent : (t : Bool) (s : Supply) → Coherent s → Coherent (cleared t s)
-  cleared-coherent t s h = C t (withFeve 0 s) s h h
+  cleared-coherent t s h = C t (withSeve 0 (withFeve 0 s)) s h h
 
   act-coherent : (s : Supply) (a : Act) → Checked a → Coherent s → Coherent (acted m s a)
   unfolding acted
@@ -154,18 +171,18 @@ module _ (m : ℕ) where
   act-coherent s (Press k) c h = key-coherent s h k
   act-coherent s (Turn t raw) c h = knob-coherent s h m t raw
   act-coherent s (Obey o) c h = order-coherent s o c h
-  act-coherent s (Ask q) c h = cleared-coherent (clearingQuery q) s h
+  act-coherent s (Ask q) c h = by-query (λ q x. Coherent x) s (λ q. h) h h q
   act-coherent s Nothing c h = h
 
-  settled-coherent : (s t : Supply) → Coherent t → Coherent (settled s t)
-  unfolding settled
+  settled-coherent : (s t : Supply) → Coherent t → Coherent (settled m s t)
+  unfolding settled seveGained feveGained
   settled-coherent s t h = h
 
   -- EACH CHECKED ACT, refused or not, leaves a coherent supply coherent
   pub performed-coherent : (s : Supply) (a : Act) → Checked a → Coherent s → Coherent (performed m s a)
   unfolding performed
   performed-coherent s a c h =
-      C (eqb (codeOf m s a) 0) (closed a (settled s (acted m s a))) s
-      (cleared-coherent (clearingAct a) (settled s (acted m s a))
+      C (eqb (codeOf m s a) 0) (closed a (settled m s (acted m s a))) s
+      (cleared-coherent (clearingAct a) (settled m s (acted m s a))
       (settled-coherent s (acted m s a) (act-coherent s a c h)))
       h

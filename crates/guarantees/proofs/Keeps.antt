@@ -17,18 +17,20 @@ use Rattle.supply.specs.declared.Target.the-variants.{Pv, Pc, Ovp, Uvl}
 use Rattle.supply.specs.declared.Key.{Key}
 use Rattle.supply.specs.declared.Key.the-variants.{Output, Fold, Local}
 use Rattle.supply.specs.declared.Order.{Order}
-use Rattle.supply.specs.declared.Order.the-variants.{Set, Ovm, Out, Fld, Ast, Rmt, Fena, Cls, Rst}
+use Rattle.supply.specs.declared.Order.the-variants.{Set, Ovm, Out, Fld, Ast, Rmt, Fena, Sena, Cls, Rst}
 use Rattle.supply.specs.declared.Act.{Act}
 use Rattle.supply.specs.declared.Act.the-variants.{Lines, Sample, Press, Turn, Obey, Ask, Nothing}
-use Rattle.supply.specs.With.{withFeve, withWant, withArmed, withMode, withOvpTrip}
+use Rattle.supply.specs.With.{withFeve, withSeve, withWant, withArmed, withMode, withOvpTrip}
 use Rattle.supply.specs.State.{fresh}
-use Rattle.supply.specs.Flt.{onOf, linesClear, settled}
+use Rattle.supply.specs.Flt.{onOf, linesClear}
+use Rattle.supply.specs.Registers.{feveGained, seveGained, settled}
 use Rattle.settings.specs.Settings.{withSetting, stepped}
 use Rattle.samples.specs.Samples.{sampled}
 use Rattle.events.specs.Events.{anyRises, falls, acFallen, linesChanged, turnedOn, disarmed, pressed, turned}
 use Rattle.codes.specs.Codes.{setCode, orderCode}
 use Rattle.orders.specs.Orders.{remote, remoteBy, outDone, fldDone, reset, ordered}
-use Rattle.acts.specs.Acts.{codeOf, clearingQuery, clearingAct, cleared, acted, closed, performed}
+use Rattle.acts.specs.Acts.{codeOf, clearingAct, cleared, acted, closed, performed}
+use Rattle.acts.proofs.Clearing.{by-query}
 use Rattle.settings.specs.Lawful.{Bounded, Lawful, Admissible}
 use Rattle.settings.proofs.Knob.{within, from-range, stepped-nearest}
 use Rattle.events.proofs.Cases.{disarm-law}
@@ -122,11 +124,12 @@ module _ (m : ℕ) where
   order-keeps s (Ast b) e h = h
   order-keeps s (Rmt k) e h = h
   order-keeps s (Fena b) e h = h
+  order-keeps s (Sena b) e h = h
   order-keeps s Cls e h = h
   order-keeps s Rst e h = fresh-lawful m
 
   cleared-keeps : (t : Bool) (s : Supply) → Lawful m s → Lawful m (cleared t s)
-  cleared-keeps t s h = K t (withFeve 0 s) s h h
+  cleared-keeps t s h = K t (withSeve 0 (withFeve 0 s)) s h h
 
   act-keeps : (s : Supply) (a : Act) → codeOf m s a ≡ 0 → Lawful m s → Lawful m (acted m s a)
   unfolding acted codeOf
@@ -135,11 +138,11 @@ module _ (m : ℕ) where
   act-keeps s (Press k) e h = key-keeps s k h
   act-keeps s (Turn t raw) e h = knob-keeps s t raw h
   act-keeps s (Obey o) e h = order-keeps s o e h
-  act-keeps s (Ask q) e h = cleared-keeps (clearingQuery q) s h
+  act-keeps s (Ask q) e h = by-query (λ q x. Lawful m x) s (λ q. h) h h q
   act-keeps s Nothing e h = h
 
-  settled-keeps : (s t : Supply) → Lawful m t → Lawful m (settled s t)
-  unfolding settled
+  settled-keeps : (s t : Supply) → Lawful m t → Lawful m (settled m s t)
+  unfolding settled seveGained feveGained
   settled-keeps s t h = h
 
   -- EVERY ACT keeps margins and limits
@@ -147,6 +150,6 @@ module _ (m : ℕ) where
   unfolding performed
   performed-lawful s a h = byCode (eqb (codeOf m s a) 0) refl
     where
-      byCode : (t : Bool) → eqb (codeOf m s a) 0 ≡ t → Lawful m (pick t (closed a (settled s (acted m s a))) s)
-      byCode true e = cleared-keeps (clearingAct a) (settled s (acted m s a)) (settled-keeps s (acted m s a) (act-keeps s a (eqb-true (codeOf m s a) 0 e) h))
+      byCode : (t : Bool) → eqb (codeOf m s a) 0 ≡ t → Lawful m (pick t (closed a (settled m s (acted m s a))) s)
+      byCode true e = cleared-keeps (clearingAct a) (settled m s (acted m s a)) (settled-keeps s (acted m s a) (act-keeps s a (eqb-true (codeOf m s a) 0 e) h))
       byCode false e = h

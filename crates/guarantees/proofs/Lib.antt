@@ -1,5 +1,4 @@
-pub mod Feve
+pub mod Registers
 pub mod Keeps
 pub mod Coherent
 pub mod Trips
-pub mod Clearing

@@ -13,18 +13,21 @@ use Rattle.supply.specs.declared.Key.the-variants.{Output, Fold, Local}
 use Rattle.supply.specs.declared.Target.{Target}
 use Rattle.supply.specs.declared.Target.the-variants.{Pv, Pc, Ovp, Uvl}
 use Rattle.supply.specs.declared.Order.{Order}
-use Rattle.supply.specs.declared.Order.the-variants.{Set, Ovm, Out, Fld, Ast, Rmt, Fena, Cls, Rst}
+use Rattle.supply.specs.declared.Order.the-variants.{Set, Ovm, Out, Fld, Ast, Rmt, Fena, Sena, Cls, Rst}
+use Rattle.supply.specs.declared.Query.{Query}
 use Rattle.supply.specs.declared.Act.{Act}
 use Rattle.supply.specs.declared.Act.the-variants.{Lines, Sample, Press, Turn, Obey, Ask, Nothing}
 use Rattle.supply.specs.With.{withWant, withArmed, withMode}
 use Rattle.supply.specs.State.{fresh}
-use Rattle.supply.specs.Flt.{onOf, linesClear, settled}
+use Rattle.supply.specs.Flt.{onOf, linesClear}
+use Rattle.supply.specs.Registers.{feveGained, seveGained, settled}
 use Rattle.settings.specs.Settings.{withSetting, stepped}
 use Rattle.samples.specs.Samples.{tripsOvp, tripsFold, sampled}
 use Rattle.events.specs.Events.{falls, linesChanged, turnedOn, disarmed, pressed, turned}
 use Rattle.codes.specs.Codes.{orderCode}
 use Rattle.orders.specs.Orders.{remote, remoteBy, outDone, fldDone, reset, ordered}
-use Rattle.acts.specs.Acts.{codeOf, clearingQuery, clearingOrder, clearingAct, cleared, acted, closed, performed}
+use Rattle.acts.specs.Acts.{codeOf, afterQuery, clearingOrder, clearingAct, cleared, acted, closed, performed}
+use Rattle.acts.proofs.Clearing.{by-query}
 use Rattle.guarantees.specs.Releases.{Trip, fold, ovp, isSet, isOvp, orderReleases, keyReleases, releases}
 use Rattle.events.proofs.Cases.{lines-law, disarm-law}
 use Rattle.supply.proofs.FltBits.{want-off-shut, fold-shut, ovp-shut}
@@ -89,13 +92,20 @@ remote-by-same k Pc s = remote-same k s
 remote-by-same k Ovp s = refl
 remote-by-same k Uvl s = refl
 
-settled-same : (k : Trip) (s t : Supply) → Same k (settled s t) t
-unfolding settled
-settled-same k s t = by-trip (λ j. Same j (settled s t) t) refl refl k
+settled-same : (k : Trip) (m : ℕ) (s t : Supply) → Same k (settled m s t) t
+unfolding settled seveGained feveGained
+settled-same k m s t = by-trip (λ j. Same j (settled m s t) t) refl refl k
 
 cleared-same : (k : Trip) (t : Bool) (s : Supply) → Same k (cleared t s) s
 cleared-same k true s = by-trip (λ j. Same j (cleared true s) s) refl refl k
 cleared-same k false s = refl
+
+query-same : (k : Trip) (q : Query) (s : Supply) → Same k (afterQuery q s) s
+query-same k q s =
+    by-trip (λ j. Same j (afterQuery q s) s)
+    (by-query (λ p x. Same fold x s) s (λ p. refl) refl refl q)
+    (by-query (λ p x. Same ovp x s) s (λ p. refl) refl refl q)
+    k
 
 -- turning on releases both trips; turning ARMED off releases FOLD and leaves OVP
 turned-on-clear : (k : Trip) (s : Supply) → isSet k (turnedOn s) ≡ false
@@ -183,6 +193,7 @@ module _ (m : ℕ) (k : Trip) (s : Supply) where
   order-trip (Ast b) e = by-trip (λ j. isSet j (ordered m s (Ast b)) ≡ isSet j s) refl refl k
   order-trip (Rmt j) e = mode-same k j s
   order-trip (Fena b) e = by-trip (λ j. isSet j (ordered m s (Fena b)) ≡ isSet j s) refl refl k
+  order-trip (Sena b) e = by-trip (λ j. isSet j (ordered m s (Sena b)) ≡ isSet j s) refl refl k
   order-trip Cls e = refl
   order-trip Rst e = reset-clear m k s
 
@@ -194,7 +205,7 @@ module _ (m : ℕ) (k : Trip) (s : Supply) where
   acted-trip (Press j) e = key-trip j ∙ sym (or-false _)
   acted-trip (Turn t raw) e = knob-trip t raw ∙ sym (or-false _)
   acted-trip (Obey o) e = order-trip o e ∙ sym (or-false _)
-  acted-trip (Ask q) e = cleared-same k (clearingQuery q) s ∙ sym (or-false _)
+  acted-trip (Ask q) e = query-same k q s ∙ sym (or-false _)
   acted-trip Nothing e = sym (or-false _)
 
   -- a refused order releases nothing and sets nothing
@@ -208,6 +219,7 @@ module _ (m : ℕ) (k : Trip) (s : Supply) where
   refused-idle (Obey (Ast b)) e = absurd (true≢false e)
   refused-idle (Obey (Rmt j)) e = absurd (true≢false e)
   refused-idle (Obey (Fena b)) e = absurd (true≢false e)
+  refused-idle (Obey (Sena b)) e = absurd (true≢false e)
   refused-idle (Obey Cls) e = absurd (true≢false e)
   refused-idle (Obey Rst) e = absurd (true≢false e)
   refused-idle (Lines b) e = absurd (true≢false e)
@@ -222,8 +234,8 @@ module _ (m : ℕ) (k : Trip) (s : Supply) where
   unfolding performed
   trip-law a = byCode (eqb (codeOf m s a) 0) refl
     where
-      byCode : (t : Bool) → eqb (codeOf m s a) 0 ≡ t → isSet k (pick t (closed a (settled s (acted m s a))) s) ≡ (left (releases m k s a) (isSet k s) || sets m k s a)
-      byCode true e = cleared-same k (clearingAct a) (settled s (acted m s a)) ∙ settled-same k s (acted m s a) ∙ acted-trip a (eqb-true (codeOf m s a) 0 e)
+      byCode : (t : Bool) → eqb (codeOf m s a) 0 ≡ t → isSet k (pick t (closed a (settled m s (acted m s a))) s) ≡ (left (releases m k s a) (isSet k s) || sets m k s a)
+      byCode true e = cleared-same k (clearingAct a) (settled m s (acted m s a)) ∙ settled-same k m s (acted m s a) ∙ acted-trip a (eqb-true (codeOf m s a) 0 e)
       byCode false e = let i = refused-idle a e in rw (i .0, i .1) (sym (or-false _))
 
   -- only a release takes a trip away
@@ -247,7 +259,7 @@ module _ (m : ℕ) (k : Trip) (s : Supply) where
 
 -- RST, and turning ARMED off on a FOLD trip, leave the output off
 pub reset-off : (m : ℕ) (s : Supply) → onOf (performed m s (Obey Rst)) ≡ false
-unfolding performed codeOf orderCode clearingAct clearingOrder settled acted ordered reset fresh
+unfolding performed codeOf orderCode clearingAct clearingOrder settled seveGained feveGained acted ordered reset fresh
 reset-off m s = want-off-shut (performed m s (Obey Rst)) refl
 
 disarmed-off : (s : Supply) → s .«fold_trip» ≡ true → disarmed s .want ≡ false
@@ -256,9 +268,9 @@ disarmed-off s e =
     ap (λ (x : Supply). x .want) (sym (disarm-law s)) ∙ off
 
 pub fld-off : (m : ℕ) (s : Supply) → s .armed ≡ true → s .«fold_trip» ≡ true → onOf (performed m s (Obey (Fld false))) ≡ false
-unfolding performed codeOf orderCode clearingAct clearingOrder settled acted ordered fldDone
+unfolding performed codeOf orderCode clearingAct clearingOrder settled seveGained feveGained acted ordered fldDone
 fld-off m s a e = want-off-shut (performed m s (Obey (Fld false))) (ap (λ (x : Supply). x .want) (pick-true (s .armed) (disarmed s) s a) ∙ disarmed-off s e)
 
 pub fold-key-off : (m : ℕ) (s : Supply) → s .mode ≡ 0 → s .armed ≡ true → s .«fold_trip» ≡ true → onOf (performed m s (Press Fold)) ≡ false
-unfolding performed codeOf clearingAct settled acted pressed
+unfolding performed codeOf clearingAct settled seveGained feveGained acted pressed
 fold-key-off m s z a e = want-off-shut (performed m s (Press Fold)) (ap (λ (x : Supply). x .want) (pick-true (eqb (s .mode) 0) (pick (s .armed) (disarmed s) (withArmed true s)) s (eq-eqb (s .mode) 0 z) ∙ pick-true (s .armed) (disarmed s) (withArmed true s) a) ∙ disarmed-off s e)

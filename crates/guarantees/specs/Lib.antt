@@ -1,3 +1,3 @@
 pub mod Coherent
-pub mod Feve
+pub mod Registers
 pub mod Releases

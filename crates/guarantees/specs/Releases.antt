@@ -6,7 +6,7 @@ use Rattle.supply.specs.declared.Supply.{Supply}
 use Rattle.supply.specs.declared.Key.{Key}
 use Rattle.supply.specs.declared.Key.the-variants as key
 use Rattle.supply.specs.declared.Order.{Order}
-use Rattle.supply.specs.declared.Order.the-variants.{Set, Ovm, Out, Fld, Ast, Rmt, Fena, Cls, Rst}
+use Rattle.supply.specs.declared.Order.the-variants.{Set, Ovm, Out, Fld, Ast, Rmt, Fena, Sena, Cls, Rst}
 use Rattle.supply.specs.declared.Act.{Act}
 use Rattle.supply.specs.declared.Act.the-variants.{Lines, Sample, Press, Turn, Obey, Ask, Nothing}
 use Rattle.supply.specs.Flt.{onOf, linesClear}
@@ -37,6 +37,7 @@ orderReleases m k s Ovm = false
 orderReleases m k s (Ast b) = false
 orderReleases m k s (Rmt j) = false
 orderReleases m k s (Fena b) = false
+orderReleases m k s (Sena b) = false
 orderReleases m k s Cls = false
 
 -- the OUTPUT key that turns the output on; and for FOLD, the FOLD key that turns ARMED off

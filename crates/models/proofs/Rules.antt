@@ -1,7 +1,7 @@
 -- Rules that the limits keep under every model number, by one test computed over the table.
 use Prim.Native.Nat.{ℕ, _*_, _/_, _%_, _^_, _≤_, _<_}
+use native.Mathlib.Nat.{le-of-lt, mul-le-mul}
 use native.Mathlib.Omega.{arith}
-use Rattle.base.proofs.Product.{below}
 use Rattle.base.proofs.Table.{Check, lt, le, eq, _and_, everywhere}
 use Rattle.models.specs.declared.Limits.{Limits}
 use Rattle.models.specs.Models.{table, limitsOf, noLimits, voltReading, ampReading}
@@ -54,15 +54,19 @@ uvl-most-lt m = rules m .0 .1 .1 .1 .1
 pub ovp-room : (m : ℕ) → limitsOf m .«ovp_least» ≤ limitsOf m .«ovp_most»
 ovp-room m = rules m .1 .1 .0
 
--- a reading of any 16-bit count is below 2 ^ 25, so it prints in 12 characters
-module _ (count rating : ℕ) (c : count < 2 ^ 16) (r : rating < 2 ^ 24) where
-  reading-small : count * rating / 50000 < 2 ^ 25
-  reading-small = omega (arith, below 16 24 c r)
+-- no rating is above 600 V or 100 A
+abbrev Rated : Limits → Check
+Rated l = le (l .volts) 6000000 and le (l .amps) 100000
 
-pub volts-small : (m count : ℕ) → count < 2 ^ 16 → voltReading m count < 2 ^ 25
+rated : (m : ℕ) → Rated (limitsOf m) .fact
+unfolding limitsOf table
+rated m = everywhere Rated table noLimits tt tt m
+
+-- so a reading of any 16-bit count has at most seven digits in ticks, and six in mA
+pub volts-small : (m count : ℕ) → count < 2 ^ 16 → voltReading m count < 10 ^ 7
 unfolding voltReading
-volts-small m count h = reading-small count (limitsOf m .volts) h (volts-lt m)
+volts-small m count h = omega (arith, mul-le-mul (le-of-lt h) (rated m .0))
 
-pub amps-small : (m count : ℕ) → count < 2 ^ 16 → ampReading m count < 2 ^ 25
+pub amps-small : (m count : ℕ) → count < 2 ^ 16 → ampReading m count < 10 ^ 6
 unfolding ampReading
-amps-small m count h = reading-small count (limitsOf m .amps) h (amps-lt m)
+amps-small m count h = omega (arith, mul-le-mul (le-of-lt h) (rated m .1))

@@ -1,6 +1,7 @@
 -- What an order does to a supply.
 use Prim.Native.Nat.{ℕ}
 use mathlib.Core.Bool.{Bool, true, false}
+use lib.Bits.{bitAnd}
 use lib.Dec.{eqb}
 use Rattle.base.specs.Choice.{pick}
 use Rattle.models.specs.Models.{limitsOf}
@@ -8,8 +9,8 @@ use Rattle.supply.specs.declared.Supply.{Supply}
 use Rattle.supply.specs.declared.Target.{Target}
 use Rattle.supply.specs.declared.Target.the-variants.{Pv, Pc, Ovp, Uvl}
 use Rattle.supply.specs.declared.Order.{Order}
-use Rattle.supply.specs.declared.Order.the-variants.{Set, Ovm, Out, Fld, Ast, Rmt, Fena, Cls, Rst}
-use Rattle.supply.specs.With.{withOvp, withWant, withArmed, withAst, withMode, withLines, withFena, withCounts}
+use Rattle.supply.specs.declared.Order.the-variants.{Set, Ovm, Out, Fld, Ast, Rmt, Fena, Sena, Cls, Rst}
+use Rattle.supply.specs.With.{withOvp, withWant, withArmed, withAst, withMode, withLines, withFena, withSena, withCounts}
 use Rattle.supply.specs.State.{fresh}
 use Rattle.settings.specs.Settings.{withSetting}
 use Rattle.codes.specs.Codes.{orderCode}
@@ -35,10 +36,16 @@ unfoldable pub fldDone : Bool → Supply → Supply
 fldDone true s = withArmed true s
 fldDone false s = pick (s .armed) (disarmed s) s
 
--- RST: as fitted, but remote, and with LINES, FENA and the counts kept
+-- the bits that SENA keeps: all but 4 to 6
+abbrev pub senaBits : ℕ
+senaBits = 0x8F
+
+-- RST: as fitted, but remote, and with LINES, FENA, SENA and the counts kept
 unfoldable pub reset : ℕ → Supply → Supply
 reset m s =
-    withLines (s .lines) (withFena (s .fena) (withCounts (s .«volt_count») (s .«amp_count») (withMode 1 (fresh m))))
+    withLines (s .lines)
+    (withFena (s .fena)
+    (withSena (s .sena) (withCounts (s .«volt_count») (s .«amp_count») (withMode 1 (fresh m)))))
 
 -- what an accepted order does; CLS takes effect as the event closes
 unfoldable pub ordered : ℕ → Supply → Order → Supply
@@ -49,6 +56,7 @@ ordered m s (Fld b) = fldDone b s
 ordered m s (Ast b) = withAst b s
 ordered m s (Rmt k) = withMode k s
 ordered m s (Fena b) = withFena b s
+ordered m s (Sena b) = withSena (bitAnd b senaBits) s
 ordered m s Cls = s
 ordered m s Rst = reset m s
 

@@ -2,13 +2,14 @@
 // What an order does to a supply: its error code, and its effect if it is accepted.
 ghost use mathlib.Core.Path.{_≡_};
 ghost use Prim.Native.Nat.{_%_};
+ghost use lib.Bits.{bitAnd};
 ghost use lib.Dec.{eqb};
 ghost use Rattle.base.specs.Choice.{pick};
 ghost use Rattle.models.specs.Models.{limitsOf};
-ghost use Rattle.supply.specs.With.{withOvp, withAst, withMode, withFena};
+ghost use Rattle.supply.specs.With.{withOvp, withAst, withMode, withFena, withSena};
 ghost use Rattle.settings.specs.Settings.{withSetting};
 ghost use Rattle.codes.specs.Codes.{orderCode};
-ghost use Rattle.orders.specs.Orders.{remote, remoteBy, outDone, fldDone, reset, ordered, afterOrder};
+ghost use Rattle.orders.specs.Orders.{remote, remoteBy, outDone, fldDone, senaBits, reset, ordered, afterOrder};
 use supply::Order;
 use supply::Outcome;
 use supply::Supply;
@@ -90,6 +91,7 @@ fn reset_supply(model: u8, s: Supply) -> Supply
     let mut t = supply::fresh_supply(model);
     t.lines = s.lines;
     t.fena = s.fena;
+    t.sena = s.sena;
     t.volt_count = s.volt_count;
     t.amp_count = s.amp_count;
     t.mode = 1;
@@ -129,6 +131,14 @@ fn put_fena(s: Supply, b: u8) -> Supply
     t
 }
 
+fn put_sena(s: Supply, b: u8) -> Supply
+    ensures { λ r. ⌜ r ≡ withSena (bitAnd b senaBits) s ⌝ }
+{
+    let mut t = s;
+    t.sena = b & 0x8F;
+    t
+}
+
 // What an accepted order does. `order_done` gives figures to `set_done`, so their arm only completes the match.
 fn carried_out(model: u8, s: Supply, o: Order) -> Supply
     requires { ⌜ orderCode model s o ≡ 0 ⌝ }
@@ -142,6 +152,7 @@ fn carried_out(model: u8, s: Supply, o: Order) -> Supply
         Order::Ast(on) => put_ast(s, on),
         Order::Rmt(k) => put_mode(s, k),
         Order::Fena(b) => put_fena(s, b),
+        Order::Sena(b) => put_sena(s, b),
         Order::Cls => s,
         Order::Rst => reset_supply(model, s),
     }

@@ -20,7 +20,7 @@ use Rattle.parameters.specs.declared.Parameter.{Parameter}
 use Rattle.asks.specs.declared.Asks.{Asks}
 use Rattle.asks.specs.declared.Asks.the-variants.{Select, BadSelect, Everyone, Nobody, One, Error}
 use Rattle.parameters.specs.Parameters.{bare, address, c01, c02, c03, c04, isEmpty, needed, within30, readAs, refusedBy, parameterOf}
-use Rattle.asks.specs.Words.{OrderWord, set, ovm, out, fld, ast, rmt, fena, cls, rst, kindOfOrder}
+use Rattle.asks.specs.Words.{OrderWord, set, ovm, out, fld, ast, rmt, fena, sena, cls, rst, kindOfOrder}
 use Rattle.asks.specs.Words.{Command, toOne, ofOne, toAll, selecting, unknownWord, kindOf, asksWith, failsWith}
 use Rattle.asks.specs.Words.{commands, commandOf, askedBy}
 use Rattle.asks.specs.Asked.{wordOf}
@@ -149,6 +149,7 @@ order-known fld = refl
 order-known ast = refl
 order-known rmt = refl
 order-known fena = refl
+order-known sena = refl
 order-known cls = refl
 order-known rst = refl
 
@@ -160,6 +161,7 @@ order-within fld x = refl
 order-within ast x = refl
 order-within rmt x = refl
 order-within fena x = refl
+order-within sena x = refl
 order-within cls x = refl
 order-within rst x = refl
 

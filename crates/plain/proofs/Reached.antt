@@ -26,7 +26,7 @@ use Rattle.parameters.specs.Parameters.{parameterOf}
 use Rattle.parameters.proofs.Bounds.{switch-most}
 use Rattle.asks.specs.declared.Asks.{Asks}
 use Rattle.asks.specs.declared.Asks.the-variants.{Select, BadSelect, Everyone, Nobody, One, Error}
-use Rattle.asks.specs.Words.{OrderWord, set, ovm, out, fld, ast, rmt, fena, cls, rst, Command, toOne, ofOne, toAll, selecting, unknownWord, kindOf, kindOfOrder, orderWith, asksWith, failsWith, askedBy}
+use Rattle.asks.specs.Words.{OrderWord, set, ovm, out, fld, ast, rmt, fena, sena, cls, rst, Command, toOne, ofOne, toAll, selecting, unknownWord, kindOf, kindOfOrder, orderWith, asksWith, failsWith, askedBy}
 use Rattle.command.specs.Lines.{heardOf}
 use Rattle.protocol.specs.Sent.{obeyed}
 use Rattle.field.specs.Fields.{pairAt, tagOf, lengthOf, payloadOf, headerCode, valuesFit, actOf, readField, pressOf, turnOf}
@@ -43,6 +43,7 @@ order-checked out x = tt
 order-checked fld x = tt
 order-checked ast x = tt
 order-checked fena x = tt
+order-checked sena x = tt
 order-checked cls x = tt
 order-checked rst x = tt
 

@@ -9,6 +9,7 @@ use Rattle.supply.specs.declared.Supply.{Supply}
 use Rattle.supply.specs.declared.Act.the-variants.{Obey}
 use Rattle.supply.specs.State.{fresh}
 use Rattle.supply.specs.Flt.{onOf}
+use Rattle.supply.specs.Rings.{ringsOf}
 use Rattle.acts.specs.Acts.{performed}
 use Rattle.guarantees.specs.Releases.{Trip, isSet, releases}
 use Rattle.asks.specs.declared.Asks.{Asks}
@@ -23,7 +24,7 @@ unfoldable pub stepOf : ℕ → Supply → Entry → Supply
 stepOf m s (field t p) = performed m s (actOf t p)
 stepOf m s (line kept spoiled) = obeyed m s (heardOf kept spoiled .asks)
 
--- and what it draws; a field of tags 2 to 5 draws nothing
+-- and what it draws in reply; a field of tags 2 to 5 draws none
 unfoldable pub replyTo : ℕ → Supply → Entry → List ℕ
 replyTo m s (field t p) = []
 replyTo m s (line kept spoiled) = repliedTo m s (heardOf kept spoiled .asks) (heardOf kept spoiled .checksummed)
@@ -49,7 +50,7 @@ grammar = record { classOf = classOf; least = leastReply; read = readField }
 
 abbrev pub plainSupply : Plain
 plainSupply =
-    record { State = Supply; step = stepOf; reply = replyTo; fresh = fresh; grammar = grammar; closing = λ u ss ts. [] }
+    record { State = Supply; step = stepOf; reply = replyTo; fresh = fresh; grammar = grammar; rings = ringsOf }
 
 -- whether what a line asks releases the trip, if a supply in this state takes it; GOUT 1 and GRST count as OUT 1 and
 -- RST

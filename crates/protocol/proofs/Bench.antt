@@ -6,13 +6,15 @@ use Rattle.figures.specs.Number.{firstAt, wellFormed, wholeUnits, scaledValue, 
 use Rattle.hex.specs.Hex.{isHex, hexOf, readHex, hexPair, total, checksum}
 use Rattle.prints.specs.Figure.{fixed, shortest, decimals, figure}
 use Rattle.supply.specs.State.{fresh}
-use Rattle.supply.specs.Flt.{fltOf, onOf, linesClear, inLimit, settled}
+use Rattle.supply.specs.Flt.{fltOf, onOf, linesClear, inLimit}
+use Rattle.supply.specs.Stat.{statOf}
+use Rattle.supply.specs.Registers.{feveGained, seveGained, settled}
 use Rattle.settings.specs.Settings.{settingOf, withSetting, leastOf, mostOf, signedOf, nearestIn, stepped}
 use Rattle.samples.specs.Samples.{sampled}
 use Rattle.events.specs.Events.{turnedOn, turned}
 use Rattle.codes.specs.Codes.{setCode, orderCode}
 use Rattle.orders.specs.Orders.{remote, remoteBy, outDone, ordered}
-use Rattle.acts.specs.Acts.{codeOf, clearingQuery, clearingOrder, clearingAct, acted, performed}
+use Rattle.acts.specs.Acts.{codeOf, afterQuery, clearingOrder, clearingAct, acted, performed}
 use Rattle.answers.specs.Answers.{answerOf}
 use Rattle.words.specs.Words.{findWord}
 use Rattle.parameters.specs.Parameters.{readAs, parameterOf}
@@ -25,5 +27,5 @@ use Rattle.protocol.specs.Sent.{obeyed, repliedTo}
 use Rattle.protocol.specs.Bench.{benchFigures, BenchFigures}
 
 pub bench : BenchFigures
-unfolding benchFigures obeyed repliedTo saidOf codeText answerText ending heardOf asksOf rightChecksum askedBy parameterOf readAs findWord answerOf performed acted clearingQuery clearingOrder clearingAct codeOf ordered outDone remote remoteBy orderCode setCode sampled turnedOn turned stepped nearestIn signedOf leastOf mostOf withSetting settingOf settled onOf linesClear inLimit fltOf fresh figure decimals shortest fixed checksum total hexPair readHex hexOf isHex readNumber scaledValue wholeUnits wellFormed firstAt runValue allDigits voltReading ampReading limitsOf table
+unfolding benchFigures obeyed repliedTo saidOf codeText answerText ending heardOf asksOf rightChecksum askedBy parameterOf readAs findWord answerOf performed acted afterQuery clearingOrder clearingAct codeOf ordered outDone remote remoteBy orderCode setCode sampled turnedOn turned stepped nearestIn signedOf leastOf mostOf withSetting settingOf settled seveGained feveGained statOf onOf linesClear inLimit fltOf fresh figure decimals shortest fixed checksum total hexPair readHex hexOf isHex readNumber scaledValue wholeUnits wellFormed firstAt runValue allDigits voltReading ampReading limitsOf table
 bench = refl

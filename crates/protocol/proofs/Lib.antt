@@ -2,3 +2,4 @@ pub mod Bench
 pub mod Verdicts
 pub mod SentBack
 pub mod Room
+pub mod Status

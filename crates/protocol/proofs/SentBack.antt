@@ -19,7 +19,7 @@ use Rattle.supply.specs.declared.Target.{Target}
 use Rattle.supply.specs.declared.Target.the-variants.{Pv, Pc, Ovp, Uvl}
 use Rattle.supply.specs.declared.Order.the-variants.{Set}
 use Rattle.supply.specs.declared.Act.the-variants.{Obey, Ask}
-use Rattle.supply.specs.Flt.{settled}
+use Rattle.supply.specs.Registers.{feveGained, seveGained, settled}
 use Rattle.settings.specs.Settings.{settingOf, withSetting}
 use Rattle.settings.specs.Lawful.{Lawful}
 use Rattle.settings.proofs.Knob.{same-setting}
@@ -110,18 +110,18 @@ remote-by-setting Pc s = remote-setting Pc s
 remote-by-setting Ovp s = refl
 remote-by-setting Uvl s = refl
 
-settled-setting : (t : Target) (s u : Supply) → settingOf t (settled s u) ≡ settingOf t u
-unfolding settled settingOf
-settled-setting Pv s u = refl
-settled-setting Pc s u = refl
-settled-setting Ovp s u = refl
-settled-setting Uvl s u = refl
+settled-setting : (t : Target) (m : ℕ) (s u : Supply) → settingOf t (settled m s u) ≡ settingOf t u
+unfolding settled seveGained feveGained settingOf
+settled-setting Pv m s u = refl
+settled-setting Pc m s u = refl
+settled-setting Ovp m s u = refl
+settled-setting Uvl m s u = refl
 
 sent-leaves : (m : ℕ) (s : Supply) (t : Target) → Lawful m s → settingOf t (performed m s (Obey (Set t (settingOf t s)))) ≡ settingOf t s
 unfolding performed acted ordered clearingAct clearingOrder
 sent-leaves m s t h =
     rw (sent-accepted m s t h)
-    (settled-setting t s (remoteBy t (withSetting t (settingOf t s) s)) ∙ remote-by-setting t (withSetting t (settingOf t s) s) ∙ ap (settingOf t) (same-setting s t))
+    (settled-setting t m s (remoteBy t (withSetting t (settingOf t s) s)) ∙ remote-by-setting t (withSetting t (settingOf t s) s) ∙ ap (settingOf t) (same-setting s t))
 
 query-asked : (t : Target) → heardOf (queryWord t) false ≡ heardAs (One (Ask (queryOf t))) false
 unfolding heardOf asksOf askedBy parameterOf findWord firstAt

@@ -2,3 +2,4 @@ pub mod Sent
 pub mod Verdicts
 pub mod Bench
 pub mod SentBack
+pub mod Status

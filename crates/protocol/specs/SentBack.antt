@@ -55,12 +55,13 @@ pub record Sized (s : Supply) : Type 0 where
   pub volt-count : s .«volt_count» < 2 ^ 16
   pub amp-count : s .«amp_count» < 2 ^ 16
 
--- the most bytes of reply for each character of a line and for its CR; and the most for any line
+-- the most bytes of reply for each character of a line and for its CR, and the most for any line. STT? sets both: its
+-- text has at most 70 characters, which is 71 bytes with CR for the five of its line, and 74 with a checksum
 abbrev pub rate : ℕ
-rate = 3
+rate = 15
 
 abbrev pub longest : ℕ
-longest = 63
+longest = 74
 
 -- ROOM: a line that is not spoiled draws at most rate × (n + 1) bytes of reply, and at most `longest`;
 -- a spoiled line draws C01 and CR

@@ -1,2 +1,4 @@
 pub mod FltBits
 pub mod Gains
+pub mod StatBits
+pub mod Rings

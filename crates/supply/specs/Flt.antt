@@ -1,14 +1,13 @@
 -- FLT and what follows from it. Nothing else derives the output from LINES and the trips, or compares the current.
 use Prim.Native.Nat.{ℕ}
 use mathlib.Core.Path.{_≡_}
-use mathlib.Core.Bool.{Bool, false, not, _&&_, _||_}
+use mathlib.Core.Bool.{Bool, false, not}
 use lib.Bits.{bitAnd, bitOr}
 use lib.Dec.{leb, eqb}
 use Rattle.base.specs.Choice.{bit}
-use Rattle.base.specs.Bits.{bitAt, shift, complement}
+use Rattle.base.specs.Bits.{bitAt, shift}
 use Rattle.models.specs.Models.{ampReading}
 use Rattle.supply.specs.declared.Supply.{Supply}
-use Rattle.supply.specs.With.{withFeve}
 
 -- FLT: LINES masked with 0xA6 (AC 1, OTP 2, SO 5, ENA 7), the FOLD trip at bit 3, the OVP trip at bit 4,
 -- and WANT off at bit 6
@@ -30,11 +29,6 @@ linesClear s = eqb (s .lines) 0
 unfoldable pub inLimit : ℕ → Supply → Bool
 inLimit m s = leb (s .pc) (ampReading m (s .«amp_count»))
 
--- the second stage of an act: a fault bit that was 0 and is now 1 goes into FEVE if FENA enabled it before
-unfoldable pub settled : Supply → Supply → Supply
-settled before after =
-    withFeve (bitOr (after .feve) (bitAnd (bitAnd (fltOf after) (complement (fltOf before))) (before .fena))) after
-
 -- FLT BIT BY BIT
 pub record FltBits (s : Supply) : Type 0 where
   pub none : bitAt 0 (fltOf s) ≡ false
@@ -45,9 +39,3 @@ pub record FltBits (s : Supply) : Type 0 where
   pub so : bitAt 5 (fltOf s) ≡ bitAt 5 (s .lines)
   pub want-off : bitAt 6 (fltOf s) ≡ not (s .want)
   pub ena : bitAt 7 (fltOf s) ≡ bitAt 7 (s .lines)
-
--- FEVE BIT BY BIT: bit k is set if the first stage left it set, or if fault bit k rose and FENA enabled it before
-abbrev pub FeveBit : Supply → Supply → ℕ → Type 0
-FeveBit before after k =
-    bitAt k (settled before after .feve)
-    ≡ (bitAt k (after .feve) || ((bitAt k (fltOf after) && not (bitAt k (fltOf before))) && bitAt k (before .fena)))

@@ -1,3 +1,6 @@
 pub mod With
 pub mod State
 pub mod Flt
+pub mod Stat
+pub mod Registers
+pub mod Rings

@@ -21,6 +21,8 @@ fresh m =
       «ovp_trip» = false;
       fena = 0;
       feve = 0;
+      sena = 0;
+      seve = 0;
       «volt_count» = 0;
       «amp_count» = 0;
     }

@@ -19,6 +19,8 @@ withPv x s =
       «ovp_trip» = s .«ovp_trip»;
       fena = s .fena;
       feve = s .feve;
+      sena = s .sena;
+      seve = s .seve;
       «volt_count» = s .«volt_count»;
       «amp_count» = s .«amp_count»;
     }
@@ -39,6 +41,8 @@ withPc x s =
       «ovp_trip» = s .«ovp_trip»;
       fena = s .fena;
       feve = s .feve;
+      sena = s .sena;
+      seve = s .seve;
       «volt_count» = s .«volt_count»;
       «amp_count» = s .«amp_count»;
     }
@@ -59,6 +63,8 @@ withOvp x s =
       «ovp_trip» = s .«ovp_trip»;
       fena = s .fena;
       feve = s .feve;
+      sena = s .sena;
+      seve = s .seve;
       «volt_count» = s .«volt_count»;
       «amp_count» = s .«amp_count»;
     }
@@ -79,6 +85,8 @@ withUvl x s =
       «ovp_trip» = s .«ovp_trip»;
       fena = s .fena;
       feve = s .feve;
+      sena = s .sena;
+      seve = s .seve;
       «volt_count» = s .«volt_count»;
       «amp_count» = s .«amp_count»;
     }
@@ -99,6 +107,8 @@ withWant x s =
       «ovp_trip» = s .«ovp_trip»;
       fena = s .fena;
       feve = s .feve;
+      sena = s .sena;
+      seve = s .seve;
       «volt_count» = s .«volt_count»;
       «amp_count» = s .«amp_count»;
     }
@@ -119,6 +129,8 @@ withArmed x s =
       «ovp_trip» = s .«ovp_trip»;
       fena = s .fena;
       feve = s .feve;
+      sena = s .sena;
+      seve = s .seve;
       «volt_count» = s .«volt_count»;
       «amp_count» = s .«amp_count»;
     }
@@ -139,6 +151,8 @@ withAst x s =
       «ovp_trip» = s .«ovp_trip»;
       fena = s .fena;
       feve = s .feve;
+      sena = s .sena;
+      seve = s .seve;
       «volt_count» = s .«volt_count»;
       «amp_count» = s .«amp_count»;
     }
@@ -159,6 +173,8 @@ withMode x s =
       «ovp_trip» = s .«ovp_trip»;
       fena = s .fena;
       feve = s .feve;
+      sena = s .sena;
+      seve = s .seve;
       «volt_count» = s .«volt_count»;
       «amp_count» = s .«amp_count»;
     }
@@ -179,6 +195,8 @@ withLines x s =
       «ovp_trip» = s .«ovp_trip»;
       fena = s .fena;
       feve = s .feve;
+      sena = s .sena;
+      seve = s .seve;
       «volt_count» = s .«volt_count»;
       «amp_count» = s .«amp_count»;
     }
@@ -199,6 +217,8 @@ withFoldTrip x s =
       «ovp_trip» = s .«ovp_trip»;
       fena = s .fena;
       feve = s .feve;
+      sena = s .sena;
+      seve = s .seve;
       «volt_count» = s .«volt_count»;
       «amp_count» = s .«amp_count»;
     }
@@ -219,6 +239,8 @@ withOvpTrip x s =
       «ovp_trip» = x;
       fena = s .fena;
       feve = s .feve;
+      sena = s .sena;
+      seve = s .seve;
       «volt_count» = s .«volt_count»;
       «amp_count» = s .«amp_count»;
     }
@@ -239,6 +261,8 @@ withFena x s =
       «ovp_trip» = s .«ovp_trip»;
       fena = x;
       feve = s .feve;
+      sena = s .sena;
+      seve = s .seve;
       «volt_count» = s .«volt_count»;
       «amp_count» = s .«amp_count»;
     }
@@ -259,6 +283,52 @@ withFeve x s =
       «ovp_trip» = s .«ovp_trip»;
       fena = s .fena;
       feve = x;
+      sena = s .sena;
+      seve = s .seve;
+      «volt_count» = s .«volt_count»;
+      «amp_count» = s .«amp_count»;
+    }
+
+abbrev pub withSena : ℕ → Supply → Supply
+withSena x s =
+    record {
+      pv = s .pv;
+      pc = s .pc;
+      ovp = s .ovp;
+      uvl = s .uvl;
+      want = s .want;
+      armed = s .armed;
+      ast = s .ast;
+      mode = s .mode;
+      lines = s .lines;
+      «fold_trip» = s .«fold_trip»;
+      «ovp_trip» = s .«ovp_trip»;
+      fena = s .fena;
+      feve = s .feve;
+      sena = x;
+      seve = s .seve;
+      «volt_count» = s .«volt_count»;
+      «amp_count» = s .«amp_count»;
+    }
+
+abbrev pub withSeve : ℕ → Supply → Supply
+withSeve x s =
+    record {
+      pv = s .pv;
+      pc = s .pc;
+      ovp = s .ovp;
+      uvl = s .uvl;
+      want = s .want;
+      armed = s .armed;
+      ast = s .ast;
+      mode = s .mode;
+      lines = s .lines;
+      «fold_trip» = s .«fold_trip»;
+      «ovp_trip» = s .«ovp_trip»;
+      fena = s .fena;
+      feve = s .feve;
+      sena = s .sena;
+      seve = x;
       «volt_count» = s .«volt_count»;
       «amp_count» = s .«amp_count»;
     }
@@ -279,6 +349,8 @@ withVoltCount x s =
       «ovp_trip» = s .«ovp_trip»;
       fena = s .fena;
       feve = s .feve;
+      sena = s .sena;
+      seve = s .seve;
       «volt_count» = x;
       «amp_count» = s .«amp_count»;
     }
@@ -299,6 +371,8 @@ withAmpCount x s =
       «ovp_trip» = s .«ovp_trip»;
       fena = s .fena;
       feve = s .feve;
+      sena = s .sena;
+      seve = s .seve;
       «volt_count» = s .«volt_count»;
       «amp_count» = x;
     }

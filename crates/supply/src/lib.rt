@@ -1,9 +1,12 @@
 // Layer supply.
-// The plain supply: its state, everything that can happen to it, and FLT. The model is passed alongside the state.
+// The plain supply: its state, everything that can happen to it, FLT and STAT, and what an event adds to FEVE and SEVE.
+// The model is passed alongside the state.
 ghost use mathlib.Core.Path.{_≡_};
 ghost use lib.Dec.{leb};
 ghost use Rattle.supply.specs.State.{fresh};
-ghost use Rattle.supply.specs.Flt.{fltOf, onOf, linesClear, inLimit, settled};
+ghost use Rattle.supply.specs.Flt.{fltOf, onOf, linesClear, inLimit};
+ghost use Rattle.supply.specs.Stat.{statOf};
+ghost use Rattle.supply.specs.Registers.{feveGained, seveGained, settled};
 
 // The whole state of a supply. Figures are in ticks of 0.1 mV and in mA; mode is 0 local, 1 remote, 2 locked out.
 #[repr(C)]
@@ -21,6 +24,8 @@ pub struct Supply {
     pub ovp_trip: bool,
     pub fena: u8,
     pub feve: u8,
+    pub sena: u8,
+    pub seve: u8,
     pub volt_count: u16,
     pub amp_count: u16,
 }
@@ -49,6 +54,7 @@ pub enum Order {
     Ast(bool),
     Rmt(u8),
     Fena(u8),
+    Sena(u8),
     Cls,
     Rst,
 }
@@ -68,6 +74,10 @@ pub enum Query {
     Flt,
     Fena,
     Feve,
+    Stt,
+    Stat,
+    Sena,
+    Seve,
 }
 
 // Everything that can happen to a supply: a new LINES byte, a sample of two counts, a key, a knob step
@@ -98,11 +108,22 @@ pub enum Word {
     Cv,
 }
 
-// The answer to a query, by meaning: a figure with its number of decimals, a word, or a byte.
+// What STT? tells: the volt reading and PV in ticks, the ampere reading and PC in mA, STAT and FLT.
+pub struct Status {
+    pub volts: u64,
+    pub pv: u64,
+    pub amps: u64,
+    pub pc: u64,
+    pub stat: u8,
+    pub flt: u8,
+}
+
+// The answer to a query, by meaning: a figure with its number of decimals, a word, a byte, or all that STT? tells.
 pub enum QueryAnswer {
     Figure(u8, u64),
     Says(Word),
     Hex(u8),
+    Tells(Status),
 }
 
 // The FLT byte.
@@ -143,15 +164,54 @@ pub fn in_limit(model: u8, s: Supply) -> bool
     reaches_pc(s, models::amp_reading(model, s.amp_count))
 }
 
+// The STAT byte.
+pub fn stat(model: u8, s: Supply) -> u8
+    ensures { λ r. ⌜ r ≡ statOf model s ⌝ }
+{
+    let on = is_on(s);
+    let limited = in_limit(model, s);
+    let no_fault = s.feve == 0;
+    let local = s.mode == 0;
+    ((on & !limited) as u8)
+        | (((on & limited) as u8) << 1)
+        | ((no_fault as u8) << 2)
+        | ((!no_fault as u8) << 3)
+        | ((s.ast as u8) << 4)
+        | ((s.armed as u8) << 5)
+        | ((local as u8) << 7)
+}
+
 // FEVE gains each FLT bit that rose and that FENA enabled before.
-pub fn settle(before: Supply, after: Supply) -> Supply
-    ensures { λ r. ⌜ r ≡ settled before after ⌝ }
+pub fn gain_feve(before: Supply, after: Supply) -> Supply
+    ensures { λ r. ⌜ r ≡ feveGained before after ⌝ }
 {
     let was = flt(before);
     let is = flt(after);
     let mut t = after;
     t.feve = after.feve | (is & !was & before.fena);
     t
+}
+
+// SEVE gains each STAT bit that rose and that SENA enabled before.
+pub fn gain_seve(model: u8, before: Supply, after: Supply) -> Supply
+    ensures { λ r. ⌜ r ≡ seveGained model before after ⌝ }
+{
+    let was = stat(model, before);
+    let is = stat(model, after);
+    let mut t = after;
+    t.seve = after.seve | (is & !was & before.sena);
+    t
+}
+
+// The second stage of an act: FEVE gains first, then SEVE. With SENA 0 it can gain nothing, and STAT is not worked out.
+pub fn settle(model: u8, before: Supply, after: Supply) -> Supply
+    ensures { λ r. ⌜ r ≡ settled model before after ⌝ }
+{
+    let gained = gain_feve(before, after);
+    if before.sena == 0 {
+        return gained;
+    }
+    gain_seve(model, before, gained)
 }
 
 // A supply as fitted.
@@ -173,6 +233,8 @@ pub fn fresh_supply(model: u8) -> Supply
         ovp_trip: false,
         fena: 0,
         feve: 0,
+        sena: 0,
+        seve: 0,
         volt_count: 0,
         amp_count: 0,
     }

@@ -9,8 +9,9 @@ use Rattle.prints.specs.Figure.{figure}
 use Rattle.hex.specs.Hex.{hexDigit, hexPair, checksum}
 use Rattle.supply.specs.declared.Word.{Word}
 use Rattle.supply.specs.declared.Word.the-variants.{On, Off, Loc, Rem, Llo, Cc, Cv}
+use Rattle.supply.specs.declared.Status.{Status}
 use Rattle.supply.specs.declared.QueryAnswer.{QueryAnswer}
-use Rattle.supply.specs.declared.QueryAnswer.the-variants.{Figure, Says, Hex}
+use Rattle.supply.specs.declared.QueryAnswer.the-variants.{Figure, Says, Hex, Tells}
 
 -- error code 0 reads OK; any other reads as its two digits with a 0 between them, so 0xC5 is C05
 unfoldable pub codeText : ℕ → List ℕ
@@ -25,10 +26,23 @@ wordText Llo = codes "LLO"
 wordText Cc = codes "CC"
 wordText Cv = codes "CV"
 
+-- what STT? tells, each value in parentheses behind its name: the reading and the setting in volts and in amperes, then
+-- STAT as SR and FLT as FR
+unfoldable pub statusText : Status → List ℕ
+statusText t =
+    (codes "MV(" ++ figure 4 (t .volts)) ++
+    (codes "),PV(" ++ figure 4 (t .pv)) ++
+    (codes "),MC(" ++ figure 3 (t .amps)) ++
+    (codes "),PC(" ++ figure 3 (t .pc)) ++
+    (codes "),SR(" ++ hexPair (t .stat)) ++
+    (codes "),FR(" ++ hexPair (t .flt)) ++
+    codes ")"
+
 unfoldable pub answerText : QueryAnswer → List ℕ
 answerText (Figure k v) = figure k v
 answerText (Says w) = wordText w
 answerText (Hex b) = hexPair b
+answerText (Tells t) = statusText t
 
 -- what ends the reply xs: $ (36) and its checksum if the line had a right one, then CR (13)
 unfoldable pub ending : Bool → List ℕ → List ℕ

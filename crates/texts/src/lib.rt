@@ -1,10 +1,14 @@
 // Layer reply.
 // The text of a reply: OK, an error code or an answer, a checksum if asked for, and CR, placed into a lent buffer.
 ghost use Prim.Native.Nat.{_-_, _≤_};
+ghost use mathlib.Core.List.{_++_};
 ghost use lib.ListN.{take, drop};
 ghost use Rattle.base.specs.Put.{Put};
-ghost use Rattle.texts.specs.Texts.{codeText, wordText, answerText, ending, replyOf};
+ghost use Rattle.prints.specs.Figure.{figure};
+ghost use Rattle.hex.specs.Hex.{hexPair};
+ghost use Rattle.texts.specs.Texts.{codeText, wordText, statusText, answerText, ending, replyOf};
 use supply::QueryAnswer;
+use supply::Status;
 use supply::Word;
 
 // Places OK or an error code.
@@ -34,6 +38,34 @@ fn put_word(buf: &mut [u8], at: usize, w: Word) -> usize
     }
 }
 
+// Places a label and a figure with k decimals.
+fn put_labelled(buf: &mut [u8], at: usize, label: &[u8], k: usize, v: u64) -> usize
+    ensures { λ r. ⌜ Put (now (buf .entry)) at (now (label .entry) ++ figure k v) r (now (buf .exit)) ⌝ }
+{
+    let p = base::put_text(buf, at, label);
+    prints::put_figure(buf, p, k, v)
+}
+
+// Places a label and a register's byte.
+fn put_register(buf: &mut [u8], at: usize, label: &[u8], byte: u8) -> usize
+    ensures { λ r. ⌜ Put (now (buf .entry)) at (now (label .entry) ++ hexPair byte) r (now (buf .exit)) ⌝ }
+{
+    let p = base::put_text(buf, at, label);
+    hex::put_hex(buf, p, byte)
+}
+
+fn put_status(buf: &mut [u8], at: usize, t: Status) -> usize
+    ensures { λ r. ⌜ Put (now (buf .entry)) at (statusText t) r (now (buf .exit)) ⌝ }
+{
+    let after_mv = put_labelled(buf, at, b"MV(", 4, t.volts);
+    let after_pv = put_labelled(buf, after_mv, b"),PV(", 4, t.pv);
+    let after_mc = put_labelled(buf, after_pv, b"),MC(", 3, t.amps);
+    let after_pc = put_labelled(buf, after_mc, b"),PC(", 3, t.pc);
+    let after_sr = put_register(buf, after_pc, b"),SR(", t.stat);
+    let after_fr = put_register(buf, after_sr, b"),FR(", t.flt);
+    base::put_byte(buf, after_fr, b')')
+}
+
 fn put_answer(buf: &mut [u8], at: usize, a: QueryAnswer) -> usize
     ensures { λ r. ⌜ Put (now (buf .entry)) at (answerText a) r (now (buf .exit)) ⌝ }
 {
@@ -41,6 +73,7 @@ fn put_answer(buf: &mut [u8], at: usize, a: QueryAnswer) -> usize
         QueryAnswer::Figure(k, v) => prints::put_figure(buf, at, k as usize, v),
         QueryAnswer::Says(w) => put_word(buf, at, w),
         QueryAnswer::Hex(b) => hex::put_hex(buf, at, b),
+        QueryAnswer::Tells(t) => put_status(buf, at, t),
     }
 }
 

@@ -1,5 +1,5 @@
 // Layer checks.
-// Tries the supply on a table of cases from standard input: one line of 38 numbers for each case, with the expected
+// Tries the supply on a table of cases from standard input: one line of 46 numbers for each case, with the expected
 // outcome. A second model of the supply, which shares nothing with this one, writes the table (tests/src/trial.rs says
 // what each number is). Prints the lines of the first wrong cases, then how many cases there were and how many were
 // wrong.
@@ -10,7 +10,7 @@ use libc::STDOUT_FILENO;
 use rows::CELLS;
 
 // The next cell of a row that has too many numbers, or something that is not a number.
-const SPOILED: usize = 39;
+const SPOILED: usize = 47;
 
 // How many wrong cases are named.
 const NAMED: u64 = 10;

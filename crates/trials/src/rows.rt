@@ -1,4 +1,4 @@
-// A case of the supply as a row of 38 numbers: the state before, an act, and what is expected of it. Makes the state
+// A case of the supply as a row of 46 numbers: the state before, an act, and what is expected of it. Makes the state
 // and the act from the numbers, and decides whether the supply does what the row expects. tests/src/trial.rs says what
 // each number is.
 use supply::Act;
@@ -6,22 +6,23 @@ use supply::Key;
 use supply::Order;
 use supply::Query;
 use supply::QueryAnswer;
+use supply::Status;
 use supply::Supply;
 use supply::Target;
 use supply::Word;
 
 // How many numbers a row has, and where its parts begin. The model is the first number.
-pub const CELLS: usize = 38;
+pub const CELLS: usize = 46;
 
 const BEFORE: u8 = 1;
 
-const ACT: u8 = 16;
+const ACT: u8 = 18;
 
-const CODE: u8 = 19;
+const CODE: u8 = 21;
 
-const AFTER: u8 = 20;
+const AFTER: u8 = 22;
 
-const ANSWER: u8 = 35;
+const ANSWER: u8 = 39;
 
 fn target_of(n: u64) -> Target {
     match n {
@@ -55,7 +56,11 @@ fn query_of(n: u64) -> Query {
         10 => Query::Mode,
         11 => Query::Flt,
         12 => Query::Fena,
-        _ => Query::Feve,
+        13 => Query::Feve,
+        14 => Query::Stt,
+        15 => Query::Stat,
+        16 => Query::Sena,
+        _ => Query::Seve,
     }
 }
 
@@ -71,7 +76,7 @@ fn figure_of(n: u64) -> u32 {
     (n % 0x1_0000_0000) as u32
 }
 
-// The orders are the kinds of act from 5 to 13.
+// The orders are the kinds of act from 5 to 13, and 15.
 fn order_of(kind: u64, a: u64, b: u64) -> Order {
     match kind {
         5 => Order::Set(target_of(a), b),
@@ -82,6 +87,7 @@ fn order_of(kind: u64, a: u64, b: u64) -> Order {
         10 => Order::Rmt(byte_of(a)),
         11 => Order::Fena(byte_of(a)),
         12 => Order::Cls,
+        15 => Order::Sena(byte_of(a)),
         _ => Order::Rst,
     }
 }
@@ -106,8 +112,8 @@ fn first_values(kind: u64) -> u64 {
         7 | 8 | 9 => 2,
         3 | 10 => 3,
         4 | 5 => 4,
-        14 => 14,
-        1 | 11 => 256,
+        14 => 18,
+        1 | 11 | 15 => 256,
         2 => 65536,
         _ => 0,
     }
@@ -145,8 +151,10 @@ fn supply_at(row: &[u64; CELLS], at: u8) -> Supply {
         ovp_trip: cell(row, at, 10) == 1,
         fena: byte_of(cell(row, at, 11)),
         feve: byte_of(cell(row, at, 12)),
-        volt_count: count_of(cell(row, at, 13)),
-        amp_count: count_of(cell(row, at, 14)),
+        sena: byte_of(cell(row, at, 13)),
+        seve: byte_of(cell(row, at, 14)),
+        volt_count: count_of(cell(row, at, 15)),
+        amp_count: count_of(cell(row, at, 16)),
     }
 }
 
@@ -166,21 +174,26 @@ fn switches_agree(row: &[u64; CELLS], at: u8, s: Supply) -> bool {
         & (cell(row, at, 10) == s.ovp_trip as u64)
 }
 
-fn bytes_agree(row: &[u64; CELLS], at: u8, s: Supply) -> bool {
+fn faults_agree(row: &[u64; CELLS], at: u8, s: Supply) -> bool {
     (cell(row, at, 8) == s.lines as u64)
         & (cell(row, at, 11) == s.fena as u64)
         & (cell(row, at, 12) == s.feve as u64)
 }
 
+fn status_agrees(row: &[u64; CELLS], at: u8, s: Supply) -> bool {
+    (cell(row, at, 13) == s.sena as u64) & (cell(row, at, 14) == s.seve as u64)
+}
+
 fn counts_agree(row: &[u64; CELLS], at: u8, s: Supply) -> bool {
-    (cell(row, at, 13) == s.volt_count as u64) & (cell(row, at, 14) == s.amp_count as u64)
+    (cell(row, at, 15) == s.volt_count as u64) & (cell(row, at, 16) == s.amp_count as u64)
 }
 
 // Whether a supply has, in every part, the state that begins at a cell.
 fn supply_agrees(row: &[u64; CELLS], at: u8, s: Supply) -> bool {
     settings_agree(row, at, s)
         & switches_agree(row, at, s)
-        & bytes_agree(row, at, s)
+        & faults_agree(row, at, s)
+        & status_agrees(row, at, s)
         & counts_agree(row, at, s)
 }
 
@@ -196,8 +209,26 @@ fn word_number(w: Word) -> u64 {
     }
 }
 
+// Whether the row expects an answer of this kind with these values, and with no others.
 fn answer_is(row: &[u64; CELLS], kind: u64, a: u64, b: u64) -> bool {
-    (cell(row, ANSWER, 0) == kind) & (cell(row, ANSWER, 1) == a) & (cell(row, ANSWER, 2) == b)
+    (cell(row, ANSWER, 0) == kind)
+        & (cell(row, ANSWER, 1) == a)
+        & (cell(row, ANSWER, 2) == b)
+        & (cell(row, ANSWER, 3) == 0)
+        & (cell(row, ANSWER, 4) == 0)
+        & (cell(row, ANSWER, 5) == 0)
+        & (cell(row, ANSWER, 6) == 0)
+}
+
+// Whether the row expects this answer to STT?.
+fn status_is(row: &[u64; CELLS], t: Status) -> bool {
+    (cell(row, ANSWER, 0) == 4)
+        & (cell(row, ANSWER, 1) == t.volts)
+        & (cell(row, ANSWER, 2) == t.pv)
+        & (cell(row, ANSWER, 3) == t.amps)
+        & (cell(row, ANSWER, 4) == t.pc)
+        & (cell(row, ANSWER, 5) == t.stat as u64)
+        & (cell(row, ANSWER, 6) == t.flt as u64)
 }
 
 fn answer_agrees(row: &[u64; CELLS], a: QueryAnswer) -> bool {
@@ -205,6 +236,7 @@ fn answer_agrees(row: &[u64; CELLS], a: QueryAnswer) -> bool {
         QueryAnswer::Figure(decimals, n) => answer_is(row, 1, decimals as u64, n),
         QueryAnswer::Says(w) => answer_is(row, 2, word_number(w), 0),
         QueryAnswer::Hex(b) => answer_is(row, 3, b as u64, 0),
+        QueryAnswer::Tells(t) => status_is(row, t),
     }
 }
 

@@ -50,6 +50,6 @@ module _ (M : Plain) where
   pub run-setup : (r : Rack State) (calls : List Call) → runFrom M r calls .setup ≡ r .setup
   run-setup r calls = ap (λ (q : Rack State). q .setup) (run-moved r calls)
 
-  deliver-size : (u : Setup) (ss : List State) (ds : List Delivery) → length (foldl (deliver M u) ss ds) ≡ length ss
+  pub deliver-size : (u : Setup) (ss : List State) (ds : List Delivery) → length (foldl (deliver M u) ss ds) ≡ length ss
   deliver-size u ss [] = refl
   deliver-size u ss (d ∷ ds) = deliver-size u (deliver M u ss d) ds ∙ length-tabulate (length ss) (next M u (stateAt M ss) d)

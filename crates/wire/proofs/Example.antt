@@ -65,7 +65,7 @@ toy =
       reply = λ m s e. pick (s .trip) (codes "off\r") (codes "on\r");
       fresh = λ m. record { trip = false; fields = 0; entries = m };
       grammar = grammar;
-      closing = λ u ss ts. [];
+      rings = λ s t. not (s .trip) && t .trip;
     }
 
 -- a model 3 in slot 0, a model 5 in slot 2, all others empty
@@ -129,6 +129,24 @@ told (done r used t) = used ∷ t
 answer : told (callOf toy (run toy setup list) (serial (codes "A2\rX\r"))) ≡ 6 ∷ codes "OK\roff\r"
 unfolding told callOf parse byteOn charOn setup list serial grammar class reading isField trips frees
 answer = refl
+
+-- and what a field draws that trips the supply: its message comes after both replies
+message : told (callOf toy (run toy setup []) (serial (codes "A2\rX\r"))) ≡ 6 ∷ codes "OK\ron\r!02\r"
+unfolding told callOf parse byteOn charOn setup serial grammar class reading isField trips frees
+message = refl
+
+-- and one that trips the supplies at 12 and then at 2: the lower address sends first, each in two digits
+abbrev wide : Setup
+wide = record { models = 3 ∷ 255 ∷ 5 ∷ replicate 9 255 ++ 4 ∷ replicate 18 255 }
+
+two-messages : told (callOf toy (run toy wide []) (serial (codes "A<\rX\rA2\rX\r"))) ≡ 11 ∷ codes "OK\ron\rOK\ron\r!02\r!12\r"
+unfolding told callOf parse byteOn charOn serial grammar class reading isField trips frees
+two-messages = refl
+
+-- what counts is the supply before and after the whole field: one that trips and is released within it sends nothing
+no-message : told (callOf toy (run toy setup []) (serial (codes "A2\rX\rR\r"))) ≡ 8 ∷ codes "OK\ron\roff\r"
+unfolding told callOf parse byteOn charOn setup serial grammar class reading isField trips frees
+no-message = refl
 
 data Kind : Type 0 where
   over : Kind

@@ -6,4 +6,5 @@ pub mod Demand3
 pub mod Entries
 pub mod Lawful
 pub mod ForCode
+pub mod Messages
 pub mod Example

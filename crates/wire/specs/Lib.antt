@@ -6,3 +6,4 @@ pub mod Entries
 pub mod Laws
 pub mod Demand3
 pub mod Groups
+pub mod Messages

@@ -1,6 +1,7 @@
 -- The rack: what a call, and a list of calls, does to the supplies and the line.
 use mathlib.Core.List.{List, [], _∷_, _++_, foldl}
-use Prim.Native.Nat.{ℕ}
+use mathlib.Core.Bool.{Bool}
+use Prim.Native.Nat.{ℕ, zero, suc, _+_, _/_, _%_}
 use lib.Dec.{eqb}
 use lib.ListN.{length, getD}
 use Rattle.base.specs.Choice.{pick}
@@ -9,27 +10,33 @@ use Rattle.wire.specs.Wire.{Entry, Delivery, one, all, say, Grammar, mod
 use Rattle.wire.specs.declared.Setup.{Setup}
 
 -- A plain supply: its whole state; what an entry does to a supply of a given model, and its reply; its fresh state; the
--- grammar of the line; and what the slots add after the replies of a field, given their states before and after it.
+-- grammar of the line; and whether it sends its service message after a field, given its states before and after that
+-- field.
 pub record Plain : Type 1 where
   pub State : Type 0
   pub step : ℕ → State → Entry → State
   pub reply : ℕ → State → Entry → List ℕ
   pub fresh : ℕ → State
   pub grammar : Grammar
-  pub closing : Setup → List State → List State → List ℕ
+  pub rings : State → State → Bool
+
+-- the service message of an address: ! (33), the address in two digits, CR (13)
+abbrev pub message : ℕ → List ℕ
+message a = 33 ∷ (48 + a / 10) ∷ (48 + a % 10) ∷ 13 ∷ []
 
 pub record Rack (S : Type 0) : Type 0 where
   pub setup : Setup
   pub slots : List S
   pub wire : Wire
 
--- what a call returns: the number of a refusal; or the new rack, the number of bytes used and the reply
+-- what a call returns: the number of a refusal; or the new rack, the number of bytes used and the reply, which is all
+-- that the field draws
 pub data CallResult (S : Type 0) : Type 0 where
   refused : ℕ → CallResult S
   done : Rack S → ℕ → List ℕ → CallResult S
 
 module _ (M : Plain) where
-  open Plain M using (State, step, reply, fresh, grammar, closing)
+  open Plain M using (State, step, reply, fresh, grammar, rings)
 
   -- HOW SUPPLIES ACT ON EACH OTHER: the state at address a after a delivery, given the states at all addresses
   abbrev pub next : Setup → (ℕ → State) → Delivery → ℕ → State
@@ -58,9 +65,22 @@ module _ (M : Plain) where
   abbrev pub moved : Rack State → Sent → Rack State
   moved r s = record { setup = r .setup; slots = foldl (deliver (r .setup)) (r .slots) (s .sent); wire = s .wire }
 
-  -- what a field draws, where ss are the slots as they were when it arrived
+  -- what the supply at address a sends after a field that took it from state s to state t
+  abbrev pub sends : ℕ → State → State → List ℕ
+  sends a s t = pick (rings s t) (message a) []
+
+  -- THE SERVICE MESSAGES after a field that took the slots from ss to ts: those of the first n addresses, lowest first;
+  -- and of all
+  abbrev pub messagesTo : ℕ → List State → List State → List ℕ
+  messagesTo zero ss ts = []
+  messagesTo (suc n) ss ts = messagesTo n ss ts ++ sends n (stateAt ss n) (stateAt ts n)
+
+  abbrev pub messages : List State → List State → List ℕ
+  messages ss ts = messagesTo (length ts) ss ts
+
+  -- what a field draws, where ss are the slots as they were when it arrived: its replies, then the messages
   abbrev pub drawnSince : List State → Rack State → Sent → List ℕ
-  drawnSince ss r s = replies (r .setup) (r .slots) (s .sent) ++ closing (r .setup) ss (moved r s .slots)
+  drawnSince ss r s = replies (r .setup) (r .slots) (s .sent) ++ messages ss (moved r s .slots)
 
   abbrev pub answered : Rack State → ℕ → Sent → CallResult State
   answered r used s = done (moved r s) used (drawnSince (r .slots) r s)

@@ -29,7 +29,7 @@ enum Takes {
 
 use Takes::{Address, Digit, Hexadecimal, Nothing, Number};
 
-const WORDS: [(&str, Takes); 31] = [
+const WORDS: [(&str, Takes); 36] = [
     ("PV", Number(Target::Pv)),
     ("PC", Number(Target::Pc)),
     ("OVP", Number(Target::Ovp)),
@@ -40,6 +40,7 @@ const WORDS: [(&str, Takes); 31] = [
     ("AST", Digit(1)),
     ("RMT", Digit(2)),
     ("FENA", Hexadecimal),
+    ("SENA", Hexadecimal),
     ("CLS", Nothing),
     ("RST", Nothing),
     ("PV?", Nothing),
@@ -56,6 +57,10 @@ const WORDS: [(&str, Takes); 31] = [
     ("FLT?", Nothing),
     ("FENA?", Nothing),
     ("FEVE?", Nothing),
+    ("STT?", Nothing),
+    ("STAT?", Nothing),
+    ("SENA?", Nothing),
+    ("SEVE?", Nothing),
     ("ADR", Address),
     ("GPV", Number(Target::Pv)),
     ("GPC", Number(Target::Pc)),
@@ -64,9 +69,9 @@ const WORDS: [(&str, Takes); 31] = [
 ];
 
 #[rustfmt::skip]
-const QUERIES: [&str; 14] = [
+const QUERIES: [&str; 18] = [
     "PV?", "PC?", "OVP?", "UVL?", "MV?", "MC?", "OUT?", "FLD?", "AST?", "RMT?", "MODE?", "FLT?",
-    "FENA?", "FEVE?",
+    "STT?", "STAT?", "FENA?", "FEVE?", "SENA?", "SEVE?",
 ];
 
 /// Numbers, and texts that look like numbers but are not.
@@ -110,7 +115,7 @@ const NO_HEXADECIMAL: [&[u8]; 24] = [
 const UNKNOWN: [&str; 40] = [
     " ", "  ", "\t", "?", "P", "V", " PV 5", " PV?", " ADR 6", " GPV 5", " OVM", "\tPV 5", "\tPV?",
     "VP 5", "PV5", "PV=5", "PV,5", "PV-5", "PV??", "?PV", "MODE", "MV", "MC", "MV 1", "FLT", "FEVE",
-    "FEVE 00", "IDN?", "REV?", "SN?", "STT?", "SENA 0F", "SAV 1", "RCL", "GSAV", "GFLD 1", "GPV?",
+    "FEVE 00", "IDN?", "REV?", "SN?", "STT", "SEVE 0F", "SAV 1", "RCL", "GSAV", "GFLD 1", "GPV?",
     "ADR?", "OUTP 1", "OVM?",
 ];
 
@@ -124,21 +129,22 @@ const DOLLARS: [&str; 29] = [
 
 /// A talk in which model 3 gives every answer and every error code that lines alone can draw.
 #[rustfmt::skip]
-const ALL_REPLIES: [&str; 50] = [
+const ALL_REPLIES: [&str; 56] = [
     "", "PV 10", "PC 2", "UVL 9.5", "OVP 10.5", "PV 9", "PV 10.0001", "PV 99", "OVP 10.4999", "OVP",
     "OVP x", "UVL 9.6", "FENA 40", "FLD 1", "AST 1", "OUT 1", "MODE?", "PC 0", "MODE?", "OUT?",
     "OUT 0", "OUT?", "MODE?", "FEVE?", "FEVE?", "RMT 0", "RMT?", "RMT 2", "RMT?", "RMT 1", "RMT?",
     "PV?", "PC?", "OVP?", "UVL?", "MV?", "MC?", "FLD?", "AST?", "FLT?", "FENA?", "ADR 30", "ADR 31",
-    "ADR", "ADR x", "GOUT 1", "GOUT 2", "GOUT", "OUT?", "WHAT?",
+    "ADR", "ADR x", "GOUT 1", "GOUT 2", "GOUT", "OUT?", "WHAT?", "SENA 8C", "SENA?", "STAT?", "STT?",
+    "RMT 0", "SEVE?",
 ];
 
 /// Lines that turn MODE 0 into 1, and lines that do not.
 #[rustfmt::skip]
-const IN_LOCAL: [&str; 34] = [
+const IN_LOCAL: [&str; 37] = [
     "PV 99", "PV 999", "PV x", "PV", "PC 5", "PC 6", "OVP 150", "OVP 1", "OVM", "UVL 50", "UVL 99",
     "OUT 1", "OUT 0", "OUT 2", "FLD 1", "FLD 0", "AST 1", "AST 0", "FENA 41", "CLS", "RST",
     "GPV 99", "GPV 999", "GPV", "GPC 5", "GPC 6", "GOUT 1", "GOUT 0", "GOUT 2", "GRST", "GRST 1",
-    "ADR 5", "PV?", "",
+    "ADR 5", "PV?", "", "SENA 81", "SENA", "STT?",
 ];
 
 /// Lines that a locked-out supply obeys.
@@ -168,6 +174,13 @@ const REGISTERS: [[&str; 2]; 10] = [
     ["FENA BF", "OUT?"],
     ["FENA 00", "FENA 40"],
 ];
+
+/// Which bits of STAT are enabled while lines let them rise.
+const ENABLES: [&str; 7] =
+    ["SENA 8f", "SENA 00", "SENA 01", "SENA 02", "SENA 0C", "SENA 80", "SENA 70"];
+
+/// What does or does not clear SEVE.
+const CLEARING: [&str; 6] = ["CLS", "RST", "GRST", "CLS 1", "SEVE? 1", "FEVE?"];
 
 /// The bytes at the ends of the ranges of characters.
 const ODD_BYTES: [u8; 4] = [0, 127, 128, 255];
@@ -200,6 +213,7 @@ fn dialogue() -> String {
     }
     dialogue.modes();
     dialogue.registers();
+    dialogue.status();
     dialogue.resets();
     for model in 0..MODELS.len() as u8 {
         dialogue.drawn(model, 12);
@@ -434,12 +448,15 @@ impl Dialogue {
         self.look();
     }
 
-    /// FENA with each hexadecimal digit and each neighbour of one in both places, and other texts.
+    /// FENA and SENA with each hexadecimal digit and each neighbour of one in both places, and other
+    /// texts.
     fn enables(&mut self) {
         self.begin(6);
         let digits = b"0123456789ABCDEFabcdef0/9:8@7G6`5g4";
-        digits.windows(2).for_each(|pair| self.order("FENA", pair));
-        NO_HEXADECIMAL.iter().for_each(|text| self.order("FENA", text));
+        for word in ["FENA", "SENA"] {
+            digits.windows(2).for_each(|pair| self.order(word, pair));
+            NO_HEXADECIMAL.iter().for_each(|text| self.order(word, text));
+        }
         self.look();
     }
 
@@ -525,13 +542,30 @@ impl Dialogue {
         }
     }
 
+    /// STAT and SEVE as lines turn the output on and off, set PC and ask FEVE?.
+    fn status(&mut self) {
+        for enabling in ENABLES {
+            self.begin(8);
+            self.say_all(&[
+                "STT?", enabling, "FENA 40", "OUT 1", "STAT?", "SEVE?", "PC 5", "STAT?",
+            ]);
+            self.say_all(&["SEVE?", "PC 0", "SEVE?", "OUT 0", "STAT?", "SEVE?", "FEVE?", "SEVE?"]);
+            self.say_all(&["RMT 0", "SEVE?", "SEVE?", "AST 1", "FLD 1", "STT?", "SEVE?", "PV 999"]);
+            self.say_all(&["RMT 3", "SEVE?"]);
+            for clearing in CLEARING {
+                self.say_all(&["OUT 1", "OUT 0", "STAT?", clearing, "SEVE?", "FEVE?", "SEVE?"]);
+                self.say_all(&["SENA?", "FENA?"]);
+            }
+        }
+    }
+
     /// RST and GRST on a supply where everything is set, and MODE? around PC 0.
     fn resets(&mut self) {
         for reset in ["RST", "grst ", "GRST 1"] {
             self.begin(3);
             self.say_all(&["PV 12.3456", "PC 7.89", "OVP 15", "UVL 10.1", "FENA C3", "FLD 1"]);
             self.say_all(&["AST 1", "MODE?", "OUT 1", "MODE?", "PC 0", "MODE?", "PC .001"]);
-            self.say_all(&["MODE?", "RMT 2", "OUT 0", "OUT 1", reset]);
+            self.say_all(&["MODE?", "SENA 8F", "RMT 2", "OUT 0", "OUT 1", reset]);
             self.look();
         }
     }

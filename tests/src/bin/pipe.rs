@@ -44,6 +44,7 @@ const ALL_TAGS: &str = r#"
     line PV?$E5
     line PV?$E6
     line FENA FF
+    line SENA ff
     line OUT 1
     line FLD 1
     text "OUT?\rFLT?\rMODE?"
@@ -57,7 +58,7 @@ const ALL_TAGS: &str = r#"
     sample 6 0 65535         # the FOLD trip
     line FLT?
     line FLD 0
-    line FLT?
+    text "FLT?\rCLS\r"
     line ADR 12              # an empty slot: from here nobody answers
     line PV?
     line PV 5
@@ -70,6 +71,10 @@ const ALL_TAGS: &str = r#"
     key 17 OUTPUT
     key 17 FOLD
     text "OUT?\rFLD?\rUVL?\r"
+    text "SENA 83\rSTT?\r"
+    text RMT 1               # ends with the next field, and two slots send messages
+    text "\rRMT 0\rGOUT 1\r"
+    text "STAT?\rSEVE?\r"
     line GPV 4               # everyone obeys, nobody replies
     line GOUT 1
     line GPC 1,5
@@ -97,7 +102,7 @@ const ALL_TAGS: &str = r#"
 /// Lists by name, as scripts.
 const NAMED: [(&str, &str); 17] = [
     ("the paper's example", "fit 6 0\nline ADR 6\nline PV 5\nline PV?"),
-    ("all tags, split lines, trips, globals", ALL_TAGS),
+    ("all tags, split lines, trips, globals, messages", ALL_TAGS),
     ("a rack without a supply", "line ADR 6\nline PV?\nline GOUT 1\nline GRST"),
     ("a fitting list and no more", "fit 6 0"),
     ("a line without its end", "fit 6 0\nline ADR 6\ntext PV?"),

@@ -15,7 +15,8 @@ const MANY: usize = 20_000;
 /// This many faults are shown with their lists; the rest are only counted.
 const MOST_SHOWN: usize = 5;
 
-/// Lines split over fields, fields within a line, both trips, checksums, globals, an empty slot.
+/// Lines split over fields, fields within a line, both trips, checksums, globals, an empty slot,
+/// messages of one and of two slots.
 const BODY: &str = r#"
     fit 2 6
     fit 6 0
@@ -30,9 +31,11 @@ const BODY: &str = r#"
     text "OUT 1\rFLD 1\r"
     sample 6 45833 0
     line FENA FF
+    line SENA 8f
     sample 6 45834 0
     text "FLT?\rOUT 0\rFLT?\r"
     text "OUT 1\rFEVE?\r"
+    text "SEVE?\rSTT?\r"
     sample 6 0 65535
     text "FLT?\rMC?"
     line $CF
@@ -40,9 +43,13 @@ const BODY: &str = r#"
     text "OUT 1\rFLT?\r"
     lines 6 none
     line "GX\bPV 4.00009"
-    text "GOUT 1\rPV?\r"
+    text "GOUT 1\rPV?\rCLS\r"
     line ADR 5
     line PV?
+    line ADR 30
+    line SENA 83
+    text "PC 1"
+    text "\rADR 6\rRMT 0\r"
     line ADR 30
     line RMT 0
     knob 30 PV +6000000
@@ -104,7 +111,8 @@ fn inputs() -> Result<Vec<(String, Vec<u8>)>, String> {
     for at in 0..body.len() {
         inputs.extend(changed(&body, at));
     }
-    for line in ["PV?", "PV?\\rMV?", "GPV 3\\rPV?", "PV 9.9"] {
+    let three = "STT?\\rSTT?\\rSTT?";
+    for line in ["PV?", "PV?\\rMV?", "GPV 3\\rPV?", "PV 9.9", three, "SEVE?\\rRMT 1\\rRMT 0"] {
         inputs.push((format!("{MANY} times {line}"), many(line)?));
     }
     Ok(inputs)
@@ -113,7 +121,7 @@ fn inputs() -> Result<Vec<(String, Vec<u8>)>, String> {
 /// One line over and over: more bytes than one read brings, and more replies than are written at
 /// once.
 fn many(line: &str) -> Result<Vec<u8>, String> {
-    let mut list = script::parse(b"fit 6 11\nline ADR 6\nline PV 600")?.bytes();
+    let mut list = script::parse(b"fit 6 11\nline ADR 6\nline PV 600\nline SENA 80")?.bytes();
     let again = script::parse(format!("fit 6 11\ntext \"{line}\\r\"").as_bytes())?.bytes();
     for _ in 0..MANY {
         list.extend(&again[SLOTS..]);

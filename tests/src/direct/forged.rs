@@ -78,7 +78,7 @@ fn forge_supply(draw: &mut Draw) -> Supply {
     let mut truth = || draw.below(2) as u8;
     let [want, armed, ast, fold_trip, ovp_trip] = std::array::from_fn(|_| truth());
     let [pv, pc, ovp, uvl] = std::array::from_fn(|_| draw.any() as u32);
-    let [mode, lines, fena, feve] = std::array::from_fn(|_| draw.any() as u8);
+    let [mode, lines, fena, feve, sena, seve] = std::array::from_fn(|_| draw.any() as u8);
     Supply {
         pv,
         pc,
@@ -93,6 +93,8 @@ fn forge_supply(draw: &mut Draw) -> Supply {
         ovp_trip,
         fena,
         feve,
+        sena,
+        seve,
         volt_count: draw.any() as u16,
         amp_count: draw.any() as u16,
     }

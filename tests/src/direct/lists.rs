@@ -18,6 +18,14 @@ const FIRST_SEED: u64 = 75_000;
 /// Each supply judges a global for itself; what follows shows that all of them received it.
 const GLOBALS: &str = r#"
     line GFENA FF            # no such order, and nobody to say so
+    text "ADR 29\rSENA 03\r"  # these three send messages
+    text "ADR 1\rSENA FF\r"
+    text "ADR 11\rSENA 8f\r"
+    line GOUT 1              # current limit, as PC is 0
+    text "SEVE?\rSTT?\r"
+    text GPC 2               # some models cannot
+    text "\rGOUT 0\rSEVE?\r"
+    line ADR 5
     line GPC 1
     line GPV 5
     line GOUT 1

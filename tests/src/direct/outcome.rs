@@ -9,7 +9,7 @@ use crate::supply::{Mode, Supply as Plain};
 
 use super::library::{Rack, Supply};
 
-const FIELDS: [&str; 15] = [
+const FIELDS: [&str; 17] = [
     "PV",
     "PC",
     "OVP",
@@ -23,6 +23,8 @@ const FIELDS: [&str; 15] = [
     "OVP trip",
     "FENA",
     "FEVE",
+    "SENA",
+    "SEVE",
     "volt count",
     "ampere count",
 ];
@@ -100,6 +102,8 @@ fn figures(supply: &Supply) -> [u64; FIELDS.len()] {
         supply.ovp_trip.into(),
         supply.fena.into(),
         supply.feve.into(),
+        supply.sena.into(),
+        supply.seve.into(),
         supply.volt_count.into(),
         supply.amp_count.into(),
     ]
@@ -120,6 +124,8 @@ fn plain_figures(plain: &Plain) -> [u64; FIELDS.len()] {
         plain.ovp_trip.into(),
         plain.fena.into(),
         plain.feve.into(),
+        plain.sena.into(),
+        plain.seve.into(),
         plain.volt_count.into(),
         plain.ampere_count.into(),
     ]

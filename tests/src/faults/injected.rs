@@ -20,6 +20,17 @@ const FIELD_BY_FIELD: &str = "31 9 11 9 7 9 7 again";
 
 /// An end in the middle of a field, so that a refusal is printed at the end of the input.
 const CUT_SHORT: &str = "fit 6 0\nline ADR 6\nline PV?\nbytes 01 00 06 50 56 3F 0D";
+/// A status that is longer than any figure, and the messages of two slots behind one field's replies.
+const MESSAGES: &str = r#"fit 6 0
+    fit 7 11
+    text "ADR 6\rSENA 8F\r"
+    text "RMT 1\rADR 7\r"
+    text "SENA FF\rRMT 1\r"
+    line STT?
+    text RMT 0
+    text "\rADR 6\rRMT 0\r"
+    line GOUT 1
+    line SEVE?"#;
 /// A refusal with input after it.
 const REFUSED: &str = "fit 6 0\nline ADR 6\nline PV?\nbytes 09 00 02 06 00\nline PV?";
 const BAD_LIST: &str = "raw-fit 0C FFFFFFFFFFFFFFFFFFFF FFFFFFFFFFFFFFFFFFFF FFFFFFFFFFFFFFFFFFFF
@@ -86,7 +97,8 @@ pub fn cases() -> Vec<Case> {
 
 /// Lists that end in each way, one of them within the fitting list, and a longer one.
 fn inputs(bench: &Bench) -> Result<Vec<Vec<u8>>, String> {
-    let mut inputs = [TWO_READINGS, CUT_SHORT, REFUSED, BAD_LIST, "fit 6 0"].map(list).to_vec();
+    let lists = [TWO_READINGS, CUT_SHORT, REFUSED, BAD_LIST, "fit 6 0", MESSAGES];
+    let mut inputs = lists.map(list).to_vec();
     inputs.push(inputs[0][..20].to_vec());
     inputs.push(bench.load("mixed", [300, 5, 750])?);
     Ok(inputs)

@@ -29,6 +29,7 @@ pub const WHOLE: &str = r#"fit 0 3
     fit 6 0
     line ADR 6
     text "PV 5\rPC 10\r"
+    text "SENA 8f\rSTT?\r"
     line PV?
     text "OVP 5.5\rOUT 1\rF"
     sample 6 45833 0

@@ -23,13 +23,13 @@ settle-requires c κs = search needs
 order-clears-requires : tie.Need-order-clears-requires
 order-clears-requires c κs = search needs
 
-clear-feve-requires : tie.Need-clear-feve-requires
-clear-feve-requires c κs = search needs
+clear-registers-requires : tie.Need-clear-registers-requires
+clear-registers-requires c κs = search needs
 
 returns-2 : tie.Need-returns-2
 returns-2 c =
     let done = c .before .before .before .order-done .ensures in
-    (done .0, rw (c .before .order-clears .ensures, c .before .before .settle .ensures, done .1) at (c .clear-feve .ensures) ∙ order-closed _ _ _)
+    (done .0, rw (c .before .order-clears .ensures, c .before .before .settle .ensures, done .1) at (c .clear-registers .ensures) ∙ order-closed _ _ _)
 
 pub obey-order-spec : {M : Type 1} → statement M
 obey-order-spec =
@@ -41,5 +41,5 @@ obey-order-spec =
     order-done-requires
     settle-requires
     order-clears-requires
-    clear-feve-requires
+    clear-registers-requires
     returns-2)

@@ -24,8 +24,8 @@ returns-2 c = rw (c .enum-told2 .given .1)
 
 returns-3 : tie.Need-returns-3
 returns-3 c =
-    let others : List ℕ = 0 ∷ 1 ∷ 2 ∷ 3 ∷ 4 ∷ 5 ∷ 6 ∷ [] in
-    order-keeps _ (λ e. miss others 7 tt (rw e at (c .match .keys3))) (λ e. miss others 8 tt (rw e at (c .match .keys3)))
+    let others : List ℕ = 0 ∷ 1 ∷ 2 ∷ 3 ∷ 4 ∷ 5 ∷ 6 ∷ 7 ∷ [] in
+    order-keeps _ (λ e. miss others 8 tt (rw e at (c .match .keys3))) (λ e. miss others 9 tt (rw e at (c .match .keys3)))
 
 pub order-clears-spec : {M : Type 1} → statement M
 order-clears-spec = tie.close (tie.spec enum-told enum-told-2 returns returns-2 returns-3)

@@ -17,8 +17,8 @@ accept-requires c κs = search needs
 enum-known-a-2 : tie.Need-enum-known-a-2
 enum-known-a-2 c = search needs
 
-sampled-requires : tie.Need-sampled-requires
-sampled-requires c κs = search needs
+sample-settled-requires : tie.Need-sample-settled-requires
+sample-settled-requires c κs = search needs
 
 enum-known-a-3 : tie.Need-enum-known-a-3
 enum-known-a-3 c = search needs
@@ -62,7 +62,7 @@ returns c = rw (c .before .before .before .a .given .1, ← c .before .lines-cha
 
 returns-2 : tie.Need-returns-2
 unfolding codeOf
-returns-2 c = rw (c .before .before .a2 .given .1) (refl, c .sampled .ensures)
+returns-2 c = rw (c .before .before .a2 .given .1) (refl, c .sample-settled .ensures)
 
 returns-3 : tie.Need-returns-3
 unfolding performed codeOf acted clearingAct
@@ -92,7 +92,7 @@ perform-spec =
     lines-changed-requires
     accept-requires
     enum-known-a-2
-    sampled-requires
+    sample-settled-requires
     enum-known-a-3
     press-requires
     accept-requires-2

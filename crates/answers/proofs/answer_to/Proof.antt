@@ -2,7 +2,7 @@
 use Prim.Native.Nat.{ℕ}
 use mathlib.Core.Path.{ap}
 use Rattle.supply.specs.declared.Word.{Word}
-use Rattle.supply.specs.declared.QueryAnswer.the-variants.{Figure, Says}
+use Rattle.supply.specs.declared.QueryAnswer.the-variants.{Figure, Says, Hex, Tells}
 use Rattle.answers.specs.Answers.{answerOf}
 use borrow.Author.Needs.{needs}
 use Rattle.answers.proofs.answer_to.Statement.{statement}
@@ -89,6 +89,24 @@ enum-told-13 c = search needs
 enum-told-14 : tie.Need-enum-told-14
 enum-told-14 c = search needs
 
+enum-told-15 : tie.Need-enum-told-15
+enum-told-15 c = search needs
+
+status-of-requires : tie.Need-status-of-requires
+status-of-requires c κs = search needs
+
+enum-told-16 : tie.Need-enum-told-16
+enum-told-16 c = search needs
+
+stat-requires : tie.Need-stat-requires
+stat-requires c κs = search needs
+
+enum-told-17 : tie.Need-enum-told-17
+enum-told-17 c = search needs
+
+enum-told-18 : tie.Need-enum-told-18
+enum-told-18 c = search needs
+
 returns : tie.Need-returns
 unfolding answerOf
 returns c = rw (c .before .enum-told .given .1)
@@ -145,6 +163,22 @@ returns-14 : tie.Need-returns-14
 unfolding answerOf
 returns-14 c = rw (c .enum-told14 .given .1)
 
+returns-15 : tie.Need-returns-15
+unfolding answerOf
+returns-15 c = rw (c .before .enum-told15 .given .1) (ap Tells (c .status-of .ensures))
+
+returns-16 : tie.Need-returns-16
+unfolding answerOf
+returns-16 c = rw (c .before .enum-told16 .given .1) (ap Hex (c .stat .ensures))
+
+returns-17 : tie.Need-returns-17
+unfolding answerOf
+returns-17 c = rw (c .enum-told17 .given .1)
+
+returns-18 : tie.Need-returns-18
+unfolding answerOf
+returns-18 c = rw (c .enum-told18 .given .1)
+
 pub answer-to-spec : {M : Type 1} → statement M
 answer-to-spec =
     tie.close
@@ -176,6 +210,12 @@ answer-to-spec =
     flt-requires
     enum-told-13
     enum-told-14
+    enum-told-15
+    status-of-requires
+    enum-told-16
+    stat-requires
+    enum-told-17
+    enum-told-18
     returns
     returns-2
     returns-3
@@ -189,4 +229,8 @@ answer-to-spec =
     returns-11
     returns-12
     returns-13
-    returns-14)
+    returns-14
+    returns-15
+    returns-16
+    returns-17
+    returns-18)

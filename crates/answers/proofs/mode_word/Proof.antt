@@ -1,6 +1,5 @@
 -- `mode_word` meets its contract.
 use Rattle.answers.specs.Answers.{modeWord}
--- `mode_word` meets its contract.
 use borrow.Author.Tests.{eq-eqb, ne-eqb}
 use Rattle.answers.proofs.mode_word.Statement.{statement}
 use Rattle.answers.proofs.mode_word.Tie as tie

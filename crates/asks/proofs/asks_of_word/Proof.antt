@@ -13,7 +13,7 @@ use Rattle.asks.proofs.asks_of_word.Lts as lts
 use Rattle.asks.proofs.ast_one.Reads as ast-one-reads
 use Rattle.asks.proofs.bare_all.Reads as bare-all-reads
 use Rattle.asks.proofs.bare_one.Reads as bare-one-reads
-use Rattle.asks.proofs.fena_one.Reads as fena-one-reads
+use Rattle.asks.proofs.enable_one.Reads as enable-one-reads
 use Rattle.asks.proofs.fld_one.Reads as fld-one-reads
 use Rattle.asks.proofs.out_all.Reads as out-all-reads
 use Rattle.asks.proofs.out_one.Reads as out-one-reads
@@ -50,8 +50,11 @@ ast-one-requires c κs = search needs
 rmt-one-requires : tie.Need-rmt-one-requires
 rmt-one-requires c κs = search needs
 
-fena-one-requires : tie.Need-fena-one-requires
-fena-one-requires c κs = search needs
+enable-one-requires : tie.Need-enable-one-requires
+enable-one-requires c κs = search needs
+
+enable-one-requires-2 : tie.Need-enable-one-requires-2
+enable-one-requires-2 c κs = search needs
 
 bare-one-requires-2 : tie.Need-bare-one-requires-2
 bare-one-requires-2 c κs = search needs
@@ -100,6 +103,18 @@ query-one-requires-13 c κs = search needs
 
 query-one-requires-14 : tie.Need-query-one-requires-14
 query-one-requires-14 c κs = search needs
+
+query-one-requires-15 : tie.Need-query-one-requires-15
+query-one-requires-15 c κs = search needs
+
+query-one-requires-16 : tie.Need-query-one-requires-16
+query-one-requires-16 c κs = search needs
+
+query-one-requires-17 : tie.Need-query-one-requires-17
+query-one-requires-17 c κs = search needs
+
+query-one-requires-18 : tie.Need-query-one-requires-18
+query-one-requires-18 c κs = search needs
 
 select-one-requires : tie.Need-select-one-requires
 select-one-requires c κs = search needs
@@ -154,95 +169,115 @@ returns-9 c = c .rmt-one .ensures ∙ by-key _ (c .before .match .keys9)
 
 returns-10 : tie.Need-returns-10
 unfolding findNumber
-returns-10 c = c .fena-one .ensures ∙ by-key _ (c .before .match .keys10)
+returns-10 c = c .enable-one .ensures ∙ by-key _ (c .before .match .keys10)
 
 returns-11 : tie.Need-returns-11
-unfolding findNumber askedBy
-returns-11 c = c .bare-one2 .ensures ∙ by-key _ (c .before .match .keys11)
+unfolding findNumber
+returns-11 c = c .enable-one2 .ensures ∙ by-key _ (c .before .match .keys11)
 
 returns-12 : tie.Need-returns-12
 unfolding findNumber askedBy
-returns-12 c = c .bare-one3 .ensures ∙ by-key _ (c .before .match .keys12)
+returns-12 c = c .bare-one2 .ensures ∙ by-key _ (c .before .match .keys12)
 
 returns-13 : tie.Need-returns-13
-unfolding findNumber
-returns-13 c = c .query-one .ensures ∙ by-key _ (c .before .match .keys13)
+unfolding findNumber askedBy
+returns-13 c = c .bare-one3 .ensures ∙ by-key _ (c .before .match .keys13)
 
 returns-14 : tie.Need-returns-14
 unfolding findNumber
-returns-14 c = c .query-one2 .ensures ∙ by-key _ (c .before .match .keys14)
+returns-14 c = c .query-one .ensures ∙ by-key _ (c .before .match .keys14)
 
 returns-15 : tie.Need-returns-15
 unfolding findNumber
-returns-15 c = c .query-one3 .ensures ∙ by-key _ (c .before .match .keys15)
+returns-15 c = c .query-one2 .ensures ∙ by-key _ (c .before .match .keys15)
 
 returns-16 : tie.Need-returns-16
 unfolding findNumber
-returns-16 c = c .query-one4 .ensures ∙ by-key _ (c .before .match .keys16)
+returns-16 c = c .query-one3 .ensures ∙ by-key _ (c .before .match .keys16)
 
 returns-17 : tie.Need-returns-17
 unfolding findNumber
-returns-17 c = c .query-one5 .ensures ∙ by-key _ (c .before .match .keys17)
+returns-17 c = c .query-one4 .ensures ∙ by-key _ (c .before .match .keys17)
 
 returns-18 : tie.Need-returns-18
 unfolding findNumber
-returns-18 c = c .query-one6 .ensures ∙ by-key _ (c .before .match .keys18)
+returns-18 c = c .query-one5 .ensures ∙ by-key _ (c .before .match .keys18)
 
 returns-19 : tie.Need-returns-19
 unfolding findNumber
-returns-19 c = c .query-one7 .ensures ∙ by-key _ (c .before .match .keys19)
+returns-19 c = c .query-one6 .ensures ∙ by-key _ (c .before .match .keys19)
 
 returns-20 : tie.Need-returns-20
 unfolding findNumber
-returns-20 c = c .query-one8 .ensures ∙ by-key _ (c .before .match .keys20)
+returns-20 c = c .query-one7 .ensures ∙ by-key _ (c .before .match .keys20)
 
 returns-21 : tie.Need-returns-21
 unfolding findNumber
-returns-21 c = c .query-one9 .ensures ∙ by-key _ (c .before .match .keys21)
+returns-21 c = c .query-one8 .ensures ∙ by-key _ (c .before .match .keys21)
 
 returns-22 : tie.Need-returns-22
 unfolding findNumber
-returns-22 c = c .query-one10 .ensures ∙ by-key _ (c .before .match .keys22)
+returns-22 c = c .query-one9 .ensures ∙ by-key _ (c .before .match .keys22)
 
 returns-23 : tie.Need-returns-23
 unfolding findNumber
-returns-23 c = c .query-one11 .ensures ∙ by-key _ (c .before .match .keys23)
+returns-23 c = c .query-one10 .ensures ∙ by-key _ (c .before .match .keys23)
 
 returns-24 : tie.Need-returns-24
 unfolding findNumber
-returns-24 c = c .query-one12 .ensures ∙ by-key _ (c .before .match .keys24)
+returns-24 c = c .query-one11 .ensures ∙ by-key _ (c .before .match .keys24)
 
 returns-25 : tie.Need-returns-25
 unfolding findNumber
-returns-25 c = c .query-one13 .ensures ∙ by-key _ (c .before .match .keys25)
+returns-25 c = c .query-one12 .ensures ∙ by-key _ (c .before .match .keys25)
 
 returns-26 : tie.Need-returns-26
 unfolding findNumber
-returns-26 c = c .query-one14 .ensures ∙ by-key _ (c .before .match .keys26)
+returns-26 c = c .query-one13 .ensures ∙ by-key _ (c .before .match .keys26)
 
 returns-27 : tie.Need-returns-27
 unfolding findNumber
-returns-27 c = c .select-one .ensures ∙ by-key _ (c .before .match .keys27)
+returns-27 c = c .query-one14 .ensures ∙ by-key _ (c .before .match .keys27)
 
 returns-28 : tie.Need-returns-28
-unfolding findNumber askedBy
-returns-28 c = c .set-all .ensures ∙ by-key _ (c .before .match .keys28)
+unfolding findNumber
+returns-28 c = c .query-one15 .ensures ∙ by-key _ (c .before .match .keys28)
 
 returns-29 : tie.Need-returns-29
-unfolding findNumber askedBy
-returns-29 c = c .set-all2 .ensures ∙ by-key _ (c .before .match .keys29)
+unfolding findNumber
+returns-29 c = c .query-one16 .ensures ∙ by-key _ (c .before .match .keys29)
 
 returns-30 : tie.Need-returns-30
 unfolding findNumber
-returns-30 c = c .out-all .ensures ∙ by-key _ (c .before .match .keys30)
+returns-30 c = c .query-one17 .ensures ∙ by-key _ (c .before .match .keys30)
 
 returns-31 : tie.Need-returns-31
-unfolding findNumber askedBy
-returns-31 c = c .bare-all .ensures ∙ by-key _ (c .before .match .keys31)
+unfolding findNumber
+returns-31 c = c .query-one18 .ensures ∙ by-key _ (c .before .match .keys31)
 
 returns-32 : tie.Need-returns-32
+unfolding findNumber
+returns-32 c = c .select-one .ensures ∙ by-key _ (c .before .match .keys32)
+
+returns-33 : tie.Need-returns-33
+unfolding findNumber askedBy
+returns-33 c = c .set-all .ensures ∙ by-key _ (c .before .match .keys33)
+
+returns-34 : tie.Need-returns-34
+unfolding findNumber askedBy
+returns-34 c = c .set-all2 .ensures ∙ by-key _ (c .before .match .keys34)
+
+returns-35 : tie.Need-returns-35
+unfolding findNumber
+returns-35 c = c .out-all .ensures ∙ by-key _ (c .before .match .keys35)
+
+returns-36 : tie.Need-returns-36
+unfolding findNumber askedBy
+returns-36 c = c .bare-all .ensures ∙ by-key _ (c .before .match .keys36)
+
+returns-37 : tie.Need-returns-37
 unfolding findNumber askedBy parameterOf
-returns-32 c = rw (find-none unknownWord commands (c .before .before .args .word) Unit (c .match .rest))
+returns-37 c = rw (find-none unknownWord commands (c .before .before .args .word) Unit (c .match .rest))
 
 pub asks-of-word-spec : {M : Type 1} → statement M
 asks-of-word-spec =
@@ -257,7 +292,8 @@ asks-of-word-spec =
     fld-one-requires
     ast-one-requires
     rmt-one-requires
-    fena-one-requires
+    enable-one-requires
+    enable-one-requires-2
     bare-one-requires-2
     bare-one-requires-3
     query-one-requires
@@ -274,6 +310,10 @@ asks-of-word-spec =
     query-one-requires-12
     query-one-requires-13
     query-one-requires-14
+    query-one-requires-15
+    query-one-requires-16
+    query-one-requires-17
+    query-one-requires-18
     select-one-requires
     set-all-requires
     set-all-requires-2
@@ -310,4 +350,9 @@ asks-of-word-spec =
     returns-29
     returns-30
     returns-31
-    returns-32)
+    returns-32
+    returns-33
+    returns-34
+    returns-35
+    returns-36
+    returns-37)

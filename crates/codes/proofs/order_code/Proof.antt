@@ -40,6 +40,9 @@ enum-told-6 c = search needs
 enum-told-7 : tie.Need-enum-told-7
 enum-told-7 c = search needs
 
+enum-told-8 : tie.Need-enum-told-8
+enum-told-8 c = search needs
+
 returns : tie.Need-returns
 unfolding orderCode
 returns c = rw (c .before .before .o .given .1) (c .set-code .ensures)
@@ -76,6 +79,10 @@ returns-9 : tie.Need-returns-9
 unfolding orderCode
 returns-9 c = rw (c .enum-told7 .given .1)
 
+returns-10 : tie.Need-returns-10
+unfolding orderCode
+returns-10 c = rw (c .enum-told8 .given .1)
+
 pub order-code-spec : {M : Type 1} → statement M
 order-code-spec =
     tie.close
@@ -92,6 +99,7 @@ order-code-spec =
     enum-told-5
     enum-told-6
     enum-told-7
+    enum-told-8
     returns
     returns-2
     returns-3
@@ -100,4 +108,5 @@ order-code-spec =
     returns-6
     returns-7
     returns-8
-    returns-9)
+    returns-9
+    returns-10)

@@ -48,6 +48,12 @@ enum-known-o-6 c = search needs
 put-fena-requires : tie.Need-put-fena-requires
 put-fena-requires c κs = search needs
 
+enum-known-o-7 : tie.Need-enum-known-o-7
+enum-known-o-7 c = search needs
+
+put-sena-requires : tie.Need-put-sena-requires
+put-sena-requires c κs = search needs
+
 enum-told-2 : tie.Need-enum-told-2
 enum-told-2 c = search needs
 
@@ -88,11 +94,15 @@ returns-7 c = rw (c .before .before .o6 .given .1) (c .put-fena .ensures)
 
 returns-8 : tie.Need-returns-8
 unfolding ordered
-returns-8 c = rw (c .enum-told2 .given .1)
+returns-8 c = rw (c .before .before .o7 .given .1) (c .put-sena .ensures)
 
 returns-9 : tie.Need-returns-9
 unfolding ordered
-returns-9 c = rw (c .before .enum-told3 .given .1) (c .reset-supply .ensures)
+returns-9 c = rw (c .enum-told2 .given .1)
+
+returns-10 : tie.Need-returns-10
+unfolding ordered
+returns-10 c = rw (c .before .enum-told3 .given .1) (c .reset-supply .ensures)
 
 pub carried-out-spec : {M : Type 1} → statement M
 carried-out-spec =
@@ -112,6 +122,8 @@ carried-out-spec =
     put-mode-requires
     enum-known-o-6
     put-fena-requires
+    enum-known-o-7
+    put-sena-requires
     enum-told-2
     enum-told-3
     reset-supply-requires
@@ -123,4 +135,5 @@ carried-out-spec =
     returns-6
     returns-7
     returns-8
-    returns-9)
+    returns-9
+    returns-10)
