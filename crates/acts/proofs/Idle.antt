@@ -17,7 +17,7 @@ use Rattle.supply.specs.declared.Act.{Act}
 use Rattle.supply.specs.declared.Act.the-variants.{Obey, Ask}
 use Rattle.supply.specs.Flt.{fltOf}
 use Rattle.supply.specs.Registers.{seveGained, settled}
-use Rattle.supply.proofs.Gains.{feve-idle, settled-same}
+use Rattle.supply.proofs.Gains.{feve-idle, settled-idle}
 use Rattle.settings.specs.Settings.{withSetting}
 use Rattle.codes.specs.Codes.{orderCode}
 use Rattle.orders.specs.Orders.{remote, remoteBy, ordered, afterOrder}
@@ -65,7 +65,7 @@ module _ (m : ℕ) (s : Supply) where
       byCode : (b : Bool) → eqb (orderCode m s o) 0 ≡ b
           → cleared (clearingOrder o) (settled m s (pick b (ordered m s o) s)) ≡ pick b (cleared (clearingOrder o) (settled m s (ordered m s o))) s
       byCode true e = refl
-      byCode false e = rw (refused-keeps o e) (settled-same m s)
+      byCode false e = rw (refused-keeps o e) (settled-idle m s s refl refl)
 
   -- a refused act changes nothing
   pub unmoved : (a : Act) → (codeOf m s a ≡ 0 → ⊥) → performed m s a ≡ s

@@ -26,14 +26,14 @@ some : {n : ℕ} → (n ≡ 0 → ⊥) → 0 < n
 some ne = omega (arith, ne)
 
 -- two supplies with the same registers
-abbrev Alike : Supply → Supply → Type 0
-Alike s t = (s .feve ≡ t .feve) × (s .seve ≡ t .seve)
+abbrev SameRegisters : Supply → Supply → Type 0
+SameRegisters s t = (s .feve ≡ t .feve) × (s .seve ≡ t .seve)
 
 -- WHAT THE FIELD UNDER WAY HAS KEPT of the slots that it found, `since`, now that they are ss
 pub record Noted (since ss : List Supply) (f : Found) (kept : List ℕ) : Type 0 where
   pub low : f .slot < 31
   -- while it has changed one slot, the registers of every other are as they were
-  pub others : f .many ≡ false → (a : ℕ) → (a ≡ f .slot → ⊥) → Alike (slotAt since a) (slotAt ss a)
+  pub others : f .many ≡ false → (a : ℕ) → (a ≡ f .slot → ⊥) → SameRegisters (slotAt since a) (slotAt ss a)
   pub found : f .many ≡ false → (slotAt since (f .slot) .feve ≡ f .feve) × (slotAt since (f .slot) .seve ≡ f .seve)
   -- afterwards the registers of all are kept
   pub all : f .many ≡ true → (a : ℕ) → a < 31
@@ -81,7 +81,7 @@ module _ (since ss : List Supply) (f : Found) (kept : List ℕ) where
   moved-on k low h e =
       record { low = low; others = λ o a ne. every a; found = λ o. every k; all = λ o. absurd (false≢true o) }
     where
-      parts : (f .many ≡ false) × Alike (slotAt ss (f .slot)) (slotAt since (f .slot))
+      parts : (f .many ≡ false) × SameRegisters (slotAt ss (f .slot)) (slotAt since (f .slot))
       parts =
           let was : Supply = slotAt ss (f .slot) in
           let b = and-eq-true-iff (not (f .many) && eqb (was .feve) (f .feve)) (eqb (was .seve) (f .seve)) .0 e in
@@ -90,10 +90,10 @@ module _ (since ss : List Supply) (f : Found) (kept : List ℕ) where
           let old = h .found one in
           (one, (eqb-true (was .feve) (f .feve) (c .1) ∙ sym (old .0), eqb-true (was .seve) (f .seve) (b .1) ∙ sym (old .1)))
 
-      every : (a : ℕ) → Alike (slotAt since a) (slotAt ss a)
+      every : (a : ℕ) → SameRegisters (slotAt since a) (slotAt ss a)
       every a = byPlace (eqb a (f .slot)) refl
         where
-          byPlace : (t : Bool) → eqb a (f .slot) ≡ t → Alike (slotAt since a) (slotAt ss a)
+          byPlace : (t : Bool) → eqb a (f .slot) ≡ t → SameRegisters (slotAt since a) (slotAt ss a)
           byPlace true p = rw (eqb-true a (f .slot) p) (sym (parts .1 .0), sym (parts .1 .1))
           byPlace false p = h .others (parts .0) a (eqb-false a (f .slot) p)
 

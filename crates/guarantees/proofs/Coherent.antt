@@ -34,12 +34,12 @@ use Rattle.guarantees.specs.Coherent.{Listed, Enabling, Agreeing, Cohere
 
 -- without a FOLD trip, ARMED has no condition to meet
 untripped : {mode lines : ℕ} {armed : Bool} {sena : ℕ} → mode ≤ 2 → Listed lines → Enabling sena → Agreeing mode lines false armed sena
-untripped m l n = record { mode-known = m; lines-listed = l; fold-armed = λ e. absurd (false≢true e); sena-kept = n }
+untripped m l n = record { mode-known = m; lines-listed = l; fold-armed = λ e. absurd (false≢true e); sena-enabling = n }
 
 -- another mode, which is known too
 moded : {mode lines : ℕ} {fold armed : Bool} {sena : ℕ} (k : ℕ) → k ≤ 2
     → Agreeing mode lines fold armed sena → Agreeing k lines fold armed sena
-moded k m h = record { mode-known = m; lines-listed = h .lines-listed; fold-armed = h .fold-armed; sena-kept = h .sena-kept }
+moded k m h = record { mode-known = m; lines-listed = h .lines-listed; fold-armed = h .fold-armed; sena-enabling = h .sena-enabling }
 
 -- the bits that SENA keeps are the others
 sena-bits : (b : ℕ) → Enabling (bitAnd b senaBits)
@@ -73,7 +73,7 @@ module _ (s : Supply) (h : Coherent s) where
         mode-known = mode-picked (falls 1 (s .lines) b) _ (s .mode) known (h .mode-known);
         lines-listed = l;
         fold-armed = λ e. h .fold-armed (and-eq-true-iff (not (falls 1 (s .lines) b)) (s .«fold_trip») .0 e .1);
-        sena-kept = h .sena-kept;
+        sena-enabling = h .sena-enabling;
       })
 
   sample-coherent : (m v a : ℕ) → Coherent (sampled m s v a)
@@ -89,18 +89,18 @@ module _ (s : Supply) (h : Coherent s) where
             let armed = and-eq-true-iff (not (reachesOvp m s v)) limited .0 under .1 in
             and-eq-true-iff (s .armed) (inLimit m (withCounts v a s)) .0 armed .0)
             (h .fold-armed);
-        sena-kept = h .sena-kept;
+        sena-enabling = h .sena-enabling;
       }
 
   disarm-coherent : Coherent (disarmed s)
-  disarm-coherent = rw (← disarm-law s) (untripped (h .mode-known) (h .lines-listed) (h .sena-kept))
+  disarm-coherent = rw (← disarm-law s) (untripped (h .mode-known) (h .lines-listed) (h .sena-enabling))
 
   armed-coherent : Coherent (withArmed true s)
-  armed-coherent = record { mode-known = h .mode-known; lines-listed = h .lines-listed; fold-armed = λ e. refl; sena-kept = h .sena-kept }
+  armed-coherent = record { mode-known = h .mode-known; lines-listed = h .lines-listed; fold-armed = λ e. refl; sena-enabling = h .sena-enabling }
 
   turned-on-coherent : Coherent (turnedOn s)
   unfolding turnedOn
-  turned-on-coherent = untripped (h .mode-known) (h .lines-listed) (h .sena-kept)
+  turned-on-coherent = untripped (h .mode-known) (h .lines-listed) (h .sena-enabling)
 
   key-coherent : (k : Key) → Coherent (pressed s k)
   unfolding pressed
@@ -143,7 +143,7 @@ remote-by-coherent Uvl s h = h
 module _ (m : ℕ) where
   reset-coherent : (s : Supply) → Coherent s → Coherent (reset m s)
   unfolding reset fresh
-  reset-coherent s h = untripped (omega arith) (h .lines-listed) (h .sena-kept)
+  reset-coherent s h = untripped (omega arith) (h .lines-listed) (h .sena-enabling)
 
   order-coherent : (s : Supply) (o : Order) → CheckedOrder o → Coherent s → Coherent (ordered m s o)
   unfolding ordered outDone fldDone
@@ -157,7 +157,7 @@ module _ (m : ℕ) where
   order-coherent s (Rmt k) c h = moded k c h
   order-coherent s (Fena b) c h = h
   order-coherent s (Sena b) c h =
-      record { mode-known = h .mode-known; lines-listed = h .lines-listed; fold-armed = h .fold-armed; sena-kept = sena-bits b }
+      record { mode-known = h .mode-known; lines-listed = h .lines-listed; fold-armed = h .fold-armed; sena-enabling = sena-bits b }
   order-coherent s Cls c h = h
   order-coherent s Rst c h = reset-coherent s h
 

@@ -315,22 +315,13 @@ module _ (m : ℕ) (s : Supply) where
   unfolding performed
   moved-by P a h k = pick-keeps P (eqb (codeOf m s a) 0) (closed a (settled m s (acted m s a))) s k h
 
-  -- neither byte shows in FLT or STAT, so taking one adds nothing to the registers
-  fena-idle : (b : ℕ) → settled m s (withFena b s) ≡ withFena b s
-  unfolding fltOf statOf onOf inLimit
-  fena-idle b = settled-idle m s (withFena b s) refl refl
-
-  sena-idle : (b : ℕ) → settled m s (withSena b s) ≡ withSena b s
-  unfolding fltOf statOf onOf inLimit
-  sena-idle b = settled-idle m s (withSena b s) refl refl
-
-  -- WHAT MOVES FENA AND SENA
+  -- WHAT MOVES FENA AND SENA. Neither shows in FLT or STAT, so taking one adds nothing to the event registers.
   pub enables-kept : EnablesKept m s
-  unfolding performed codeOf orderCode clearingAct clearingOrder acted ordered
+  unfolding performed codeOf orderCode clearingAct clearingOrder acted ordered fltOf statOf onOf inLimit
   enables-kept =
       record {
-        fena-taken = λ b. fena-idle b;
-        sena-taken = λ b. sena-idle (bitAnd b 0x8F);
+        fena-taken = λ b. settled-idle m s (withFena b s) refl refl;
+        sena-taken = λ b. settled-idle m s (withSena (bitAnd b 0x8F) s) refl refl;
         fena-kept = λ a n. moved-by (λ (x : Supply). x .fena ≡ s .fena) a refl (later-same (acted m s a) (clearingAct a) .0 ∙ acted-enables s feve m a n);
         sena-kept = λ a n. moved-by (λ (x : Supply). x .sena ≡ s .sena) a refl (later-same (acted m s a) (clearingAct a) .1 ∙ acted-enables s seve m a n);
       }

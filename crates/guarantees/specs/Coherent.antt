@@ -27,7 +27,7 @@ pub record Agreeing (mode lines : ℕ) (fold armed : Bool) (sena : ℕ) : Type 0
   -- a FOLD trip stands only while foldback is armed
   pub fold-armed : fold ≡ true → armed ≡ true
   -- SENA never keeps bits 4 to 6
-  pub sena-kept : Enabling sena
+  pub sena-enabling : Enabling sena
 
 abbrev pub Coherent : Supply → Type 0
 Coherent s = Agreeing (s .mode) (s .lines) (s .«fold_trip») (s .armed) (s .sena)

@@ -166,6 +166,3 @@ module _ (before after : Supply) where
 pub settled-idle : (m : ℕ) (s t : Supply) → fltOf t ≡ fltOf s → statOf m t ≡ statOf m s → settled m s t ≡ t
 unfolding settled
 settled-idle m s t f e = rw (feve-idle s t f) (seve-idle s t m e)
-
-pub settled-same : (m : ℕ) (s : Supply) → settled m s s ≡ s
-settled-same m s = settled-idle m s s refl refl
