@@ -1,7 +1,7 @@
 //! Makes inputs for the program from a seed: lists that mostly make sense, with values at, just
 //! inside and just outside every limit as it is in the reference model at that moment.
 
-use crate::line::checksum;
+use crate::line::{checksum, MOST_CHARACTERS};
 use crate::rack::{Rack, EMPTY, LEAST_ROOM, SLOTS};
 use crate::share::Call;
 use crate::supply::{amperes_text, volts_text, Supply, Target};
@@ -90,7 +90,7 @@ const ORDERS: [&str; 24] = [
 
 /// Lines with something wrong or unusual about them.
 #[rustfmt::skip]
-const ODD_LINES: [&str; 84] = [
+const ODD_LINES: [&str; 96] = [
     "", " ", "PV", "PV ", "PV  5", "PV 5 ", "PV x", " PV 5", "PV? ", "PV? 1", "PV?1", "PV .",
     "PV ..", "PV 1.2.3", "PV .5", "PV 5.", "PV +1", "PV -1", "PV 1e1", "PV 0000000000001",
     "PV 000000000001", "PV 999999999999", "PV 99999999999.", "PV .00009999999", "PV\t5", "PC",
@@ -99,15 +99,18 @@ const ODD_LINES: [&str; 84] = [
     "FENA", "FENA 1", "FENA 1G", "FENA 123", "FENA ff", "CLS 0", "CLS ", "RST 1", "RST ", "IDN?",
     "SENA", "SENA ", "SENA 1", "SENA 1G", "SENA 123", "SENA f7", "SENA? 1", "SEVE? 0", "STT? 1",
     "STAT", "STT", "SEVE", "SAV", "GSAV", "GRCL", "ADR?", "OUTP 1", "PVX 5", "$00", "$", "$$$", "$24", "PV 5$1",
-    "PV?$E5$EF", "MODE", "MV 1", "PV?$E5$83",
+    "PV?$E5$EF", "MODE", "MV 1", "PV?$E5$83", "PV .00005", "PV 0.00015", "PV .00025",
+    "PV .00004999999", "PV .00005000001", "PV .000050000000", "PV 999999.99995", "PC .0005",
+    "PC 0.0015", "PC .0025", "PC .00149999999", "PC .00150000001",
 ];
 
 /// Lines to an address or to everyone with something wrong or unusual about them.
 #[rustfmt::skip]
-const ODD_CALLS: [&str; 25] = [
+const ODD_CALLS: [&str; 29] = [
     "ADR", "ADR ", "ADR x", "ADR 006", "ADR 5.", "ADR 31", "ADR 99", "ADR 30", "ADR 00", "ADR  6",
     "ADR 6 ", "ADR -1", "GPV", "GPV x", "GPV 1.2.3", "GPC", "GPC ", "GOUT", "GOUT 2", "GOUT ON",
-    "GRST 1", "GRST ", "GPV 999999999999", "GPVX 5", "GSENA 8F",
+    "GRST 1", "GRST ", "GPV 999999999999", "GPVX 5", "GSENA 8F", "GPV .00005", "GPV 0.00015",
+    "GPC .0005", "GPC 0.0015",
 ];
 
 /// Orders that let something rise in FLT or STAT, each behind the one that makes it ready.
@@ -164,6 +167,14 @@ pub fn generate(seed: u64) -> Input {
         maker.spoil_fitting();
     }
     Input { parts: maker.parts }
+}
+
+/// A setting with all its decimals.
+fn text_of(target: Target, value: i64) -> String {
+    match target {
+        Target::Pc => amperes_text(value),
+        _ => volts_text(value),
+    }
 }
 
 /// Mostly a few slots, sometimes all or none.
@@ -456,20 +467,51 @@ impl Maker {
 
     /// Such a value as text, written in one of the ways in which a number may be written.
     fn number(&mut self, target: Target) -> String {
-        let decimals = if target == Target::Pc { 3 } else { 4 };
         let value = self.value(target);
-        let unit = 10_i64.pow(decimals);
-        let (whole, part) = (value / unit, value % unit);
-        let full = format!("{whole}.{part:0width$}", width = decimals as usize);
+        let full = text_of(target, value);
         let short = full.trim_end_matches('0').to_string();
-        match self.draw.below(10) {
+        match self.draw.below(16) {
             0..=3 => full,
             4..=6 => short.trim_end_matches('.').to_string(),
             7 => short.strip_prefix('0').filter(|text| text.len() > 1).unwrap_or(&full).to_string(),
-            8 => format!("{full}{}", self.draw.below(1000)),
+            8..=14 => self.between_units(target, value),
             // Leading zeros, to the greatest length that a number may have or one more.
             _ => format!("{full:0>width$}", width = self.draw.pick(&[1 + full.len(), 12, 13])),
         }
+    }
+
+    /// A number between a value and the next, or between the last that is allowed at the moment and
+    /// the first that is not. It has up to the greatest length that a number may have, rarely more.
+    fn between_units(&mut self, target: Target, value: i64) -> String {
+        let edge = match self.focus() {
+            Some(slot) if self.draw.percent(50) => {
+                let (least, most) = self.supply(slot).range(target);
+                self.draw.pick(&[least - 1, most]).max(0)
+            }
+            _ => value,
+        };
+        let full = text_of(target, edge);
+        let room = MOST_CHARACTERS - full.len();
+        let most = if self.draw.percent(15) { room + 1 } else { room };
+        let count = self.draw.between(1, most as i64) as usize;
+        let text = format!("{full}{}", self.further_digits(count));
+        match text.strip_prefix('0').filter(|_| self.draw.percent(30)) {
+            Some(bare) => bare.to_string(),
+            None => text,
+        }
+    }
+
+    /// So many digits below a tick or mA: a tie, as near to one as they can come, all nines, or any.
+    fn further_digits(&mut self, count: usize) -> String {
+        let tie = 5 * 10_u64.pow(count as u32 - 1);
+        let digits = match self.draw.below(10) {
+            0..=3 => tie,
+            4..=5 => tie - 1,
+            6..=7 => tie + 1,
+            8 => 2 * tie - 1,
+            _ => self.draw.below(2 * tie),
+        };
+        format!("{digits:0count$}")
     }
 
     // ---- events ----

@@ -1,6 +1,7 @@
 //! One serial line: from the characters kept at its CR to what it says, whom it addresses, what the
 //! supply does with it and how the reply looks on the wire.
 
+use std::cmp::Ordering;
 use std::io::Write;
 
 use crate::supply::{Answer, Code, Mode, Order, Query, Supply};
@@ -8,9 +9,9 @@ use crate::supply::{Answer, Code, Mode, Order, Query, Supply};
 /// A line holds this many characters; a further one spoils it.
 pub const LINE_ROOM: usize = 64;
 /// A number has at most this many characters.
-const MOST_CHARACTERS: usize = 12;
-const VOLT_DECIMALS: usize = 4;
-const AMPERE_DECIMALS: usize = 3;
+pub const MOST_CHARACTERS: usize = 12;
+const VOLT_DECIMALS: u32 = 4;
+const AMPERE_DECIMALS: u32 = 3;
 
 /// Whom a line addresses.
 #[derive(Clone, Copy, Debug, PartialEq, Eq)]
@@ -194,8 +195,9 @@ fn slot_number(parameter: &[u8]) -> Result<Said, Code> {
     }
 }
 
-/// Clause "A number n": 1 to 12 characters, digits with at most one point among them.
-fn number(text: &[u8], decimals: usize) -> Result<i64, Code> {
+/// Clause "A number n": 1 to 12 characters, digits with at most one point among them; in ticks or
+/// mA, of which a volt or an ampere has ten to the power of its decimals.
+fn number(text: &[u8], decimals: u32) -> Result<i64, Code> {
     let point = text.iter().position(|byte| *byte == b'.').unwrap_or(text.len());
     let whole = &text[..point];
     let fraction = text.get(point + 1..).unwrap_or(&[]);
@@ -205,12 +207,25 @@ fn number(text: &[u8], decimals: usize) -> Result<i64, Code> {
     if !well_formed {
         return Err(Code::C03);
     }
-    // Pads to the wanted decimals, and truncates what lies below a tick or mA.
-    let mut run = [b'0'; MOST_CHARACTERS + VOLT_DECIMALS];
-    let places = fraction.len().min(decimals);
-    run[..whole.len()].copy_from_slice(whole);
-    run[whole.len()..whole.len() + places].copy_from_slice(&fraction[..places]);
-    Ok(run_value(&run[..whole.len() + decimals]))
+    // The last digit typed counts parts of a volt or an ampere; 12 digits and 4 more fit.
+    let parts = 10_i64.pow(fraction.len() as u32);
+    let typed = run_value(whole) * parts + run_value(fraction);
+    Ok(rounded(typed * 10_i64.pow(decimals), parts))
+}
+
+/// Clause "A number is rounded": the whole number nearest to value / parts, a tie going to the even
+/// one. Neither is negative.
+fn rounded(value: i64, parts: i64) -> i64 {
+    let below = value / parts;
+    let above = below + 1;
+    let from_below = value - below * parts;
+    let from_above = above * parts - value;
+    match from_below.cmp(&from_above) {
+        Ordering::Less => below,
+        Ordering::Greater => above,
+        Ordering::Equal if below % 2 == 0 => below,
+        Ordering::Equal => above,
+    }
 }
 
 /// The value of digits, from the value of those before the last.

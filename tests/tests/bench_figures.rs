@@ -68,7 +68,7 @@ fn figure_06_highest_count() {
 
 #[test]
 fn figure_07_digits_below_a_tick() {
-    expect(0, &[("PV 5.00009", "OK"), ("PV?", "5.0000")]);
+    expect(0, &[("PV 5.00009", "OK"), ("PV?", "5.0001")]);
 }
 
 #[test]
@@ -106,6 +106,14 @@ fn status_of_a_fresh_supply() {
         let status = "MV(0.0000),PV(0.0000),MC(0.000),PC(0.000),SR(84),FR(40)";
         expect(model, &[("STT?", status), ("STAT?", "84"), ("SENA?", "00"), ("SEVE?", "00")]);
     }
+}
+
+/// The three numbers that the papers give as examples of rounding.
+#[test]
+fn examples_of_rounding() {
+    expect(0, &[("PV 5.00009", "OK"), ("PV?", "5.0001")]);
+    expect(0, &[("PV 6.30005", "OK"), ("PV?", "6.3000")]);
+    expect(0, &[("PV 5", "OK"), ("PV 6.30015", "C05"), ("PV?", "5.0000")]);
 }
 
 /// The last two releases named leave the output off.

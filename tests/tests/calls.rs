@@ -1,12 +1,14 @@
 //! The checks of `calls` can fail: the model stands in for the library, right at first and then
 //! wrong in one thing at a time, and each wrong thing is reported by its name.
 
+use std::cmp::Ordering;
+
 use rack_tests::direct::bench::Tally;
 use rack_tests::direct::forged::fitted_alike;
 use rack_tests::direct::library::{Controller, Done, Fitted, Line, Rack, Supply};
 use rack_tests::direct::outcome::{difference, name_of, Outcome, State, FENCE, FIGURES};
 use rack_tests::direct::{checks, faults, Check};
-use rack_tests::line::LINE_ROOM;
+use rack_tests::line::{LINE_ROOM, MOST_CHARACTERS};
 use rack_tests::rack::{Rack as Model, EMPTY, SLOTS};
 use rack_tests::supply::{Mode, Supply as Plain, MODELS};
 
@@ -185,6 +187,128 @@ impl Moment<'_> {
             let said = self.bytes[3..self.done.used].iter().map(field).flat_map(work);
             self.say(&said.collect::<Vec<u8>>());
         }
+    }
+
+    /// The call with another reading of the number in the one line that ends with it: the rack after
+    /// it and what is said. None if there is no such number.
+    fn heard(&self, rule: impl Fn(&Fine) -> i64) -> Option<(Model, Vec<u8>)> {
+        if !self.accepted() || self.bytes[0] != 1 || !known(&self.before) {
+            return None;
+        }
+        let (end, start) = self.bytes[3..self.done.used].split_last()?;
+        if *end != b'\r' || start.contains(&b'\r') {
+            return None;
+        }
+        let mut model = model_of(&self.before);
+        let work = |model: &mut Model, byte: u8| model.call(&[1, 0, 1, byte], 512);
+        start.iter().for_each(|byte| drop(work(&mut model, *byte)));
+        let line = String::from_utf8(model.kept.clone()).ok()?;
+        let (fine, decimals) = Fine::of(&line)?;
+        let (units, unit) = (rule(&fine), 10_i64.pow(decimals as u32));
+        model.kept = format!("{} {}.{:0decimals$}", fine.word, units / unit, units % unit).into();
+        let said = work(&mut model, b'\r').expect("a good field").1;
+        Some((model, said))
+    }
+
+    fn take(&mut self, heard: (Model, Vec<u8>)) {
+        put(&heard.0, self.rack);
+        self.say(&heard.1);
+    }
+
+    /// The call with numbers read by another rule.
+    fn reads(&mut self, rule: impl Fn(&Fine) -> i64) {
+        if let Some(heard) = self.heard(rule) {
+            self.take(heard);
+        }
+    }
+
+    /// The call with numbers checked by another rule before they are rounded.
+    fn checks_first(&mut self, rule: impl Fn(&Fine) -> i64) {
+        if let Some(heard) = self.heard(rule).filter(|(_, said)| refusal(said)) {
+            self.take(heard);
+        }
+    }
+
+    /// The call with numbers read by another rule where the right one finds them out of range.
+    fn helps_out(&mut self, rule: impl Fn(&Fine) -> i64) {
+        if refusal(&self.said().0) {
+            self.reads(rule);
+        }
+    }
+}
+
+/// Whether a reply is an error code.
+fn refusal(reply: &[u8]) -> bool {
+    reply.starts_with(b"C") || reply.starts_with(b"E")
+}
+
+/// A number with digits below a tick or mA, in such a line: so many parts, of which a unit has
+/// these.
+struct Fine {
+    word: String,
+    typed: i64,
+    parts: i64,
+}
+
+impl Fine {
+    /// The number of this line, if it has such digits, and the decimals of its unit.
+    fn of(line: &str) -> Option<(Fine, usize)> {
+        let (word, number) = line.split_once(' ')?;
+        let word = word.to_uppercase();
+        let decimals = match word.as_str() {
+            "PV" | "GPV" | "OVP" | "UVL" => 4,
+            "PC" | "GPC" => 3,
+            _ => return None,
+        };
+        let (whole, fraction) = number.split_once('.')?;
+        let digits = format!("{whole}{fraction}");
+        if number.len() > MOST_CHARACTERS || !digits.bytes().all(|it| it.is_ascii_digit()) {
+            return None;
+        }
+        let parts = 10_i64.pow(fraction.len().checked_sub(decimals)? as u32);
+        let fine = Fine { word, typed: digits.parse().ok()?, parts };
+        Some((fine, decimals)).filter(|_| parts > 1)
+    }
+
+    fn below(&self) -> i64 {
+        self.typed / self.parts
+    }
+
+    /// Whether it is before, at or behind the middle between two units.
+    fn side(&self) -> Ordering {
+        (2 * (self.typed % self.parts)).cmp(&self.parts)
+    }
+
+    /// The units below it, or those above it.
+    fn up(&self, up: bool) -> i64 {
+        self.below() + i64::from(up)
+    }
+
+    fn tie_to(&self, remainder: i64) -> i64 {
+        self.up(match self.side() {
+            Ordering::Equal => self.below() % 2 != remainder,
+            side => side == Ordering::Greater,
+        })
+    }
+
+    /// Right for every order but this one, which cuts off.
+    fn cut_by(&self, word: &str) -> i64 {
+        match self.word == word {
+            true => self.below(),
+            false => self.tie_to(0),
+        }
+    }
+
+    /// A tie is told by the first digit below the unit, whatever follows it.
+    fn by_one_digit(&self) -> i64 {
+        let tenths = self.typed / (self.parts / 10);
+        Fine { word: String::new(), typed: tenths, parts: 10 }.tie_to(0)
+    }
+
+    /// Rounded to tenths of the unit, and these to the unit.
+    fn in_two_steps(&self) -> i64 {
+        let to_tenths = Fine { word: String::new(), typed: self.typed, parts: self.parts / 10 };
+        Fine { word: String::new(), typed: to_tenths.tie_to(0), parts: 10 }.tie_to(0)
     }
 }
 
@@ -380,11 +504,49 @@ const CALLS: &[(&str, WrongCall)] = &[
     ("the model of slot 30 should be", |it| if it.done.code == 2 { it.rack.models[30] = EMPTY }),
 ];
 
+/// Numbers with digits below a tick or mA, read or checked in another way than the papers say.
+#[rustfmt::skip]
+const ROUNDING: &[(&str, WrongCall)] = &[
+    // cut off, by every order and by one alone
+    ("PV should be 50001 and is 50000", |it| it.reads(Fine::below)),
+    ("PV should be 50001 and is 50000", |it| it.reads(|it| it.cut_by("PV"))),
+    ("PC should be", |it| it.reads(|it| it.cut_by("PC"))),
+    ("OVP should be", |it| it.reads(|it| it.cut_by("OVP"))),
+    ("length should be 4 and is 3", |it| it.reads(|it| it.cut_by("UVL"))),
+    ("PV should be", |it| it.reads(|it| it.cut_by("GPV"))),
+    ("PC should be", |it| it.reads(|it| it.cut_by("GPC"))),
+    // ties up, down and to the odd one; a tie told by one digit; always up; in two steps
+    ("length should be 3 and is 4", |it| it.reads(|it| it.up(it.side() != Ordering::Less))),
+    ("PC should be 1002 and is 1001", |it| it.reads(|it| it.up(it.side() == Ordering::Greater))),
+    ("PC should be 1002 and is 1001", |it| it.reads(|it| it.tie_to(1))),
+    ("PV should be 40001 and is 40000", |it| it.reads(Fine::by_one_digit)),
+    ("PV should be 0 and is 1", |it| it.reads(|it| it.up(it.typed % it.parts > 0))),
+    ("PC should be 13125 and is 13126", |it| it.reads(Fine::in_two_steps)),
+    // checked as typed, checked when cut off; brought down or up into the range
+    ("length should be 3 and is 4", |it| it.checks_first(|it| it.up(it.typed % it.parts > 0))),
+    ("length should be 3 and is 4", |it| it.checks_first(Fine::below)),
+    ("length should be 4 and is 3", |it| it.helps_out(Fine::below)),
+    ("length should be 4 and is 3", |it| it.helps_out(|it| it.up(true))),
+];
+
 #[test]
 fn a_wrong_call_is_told_whatever_is_wrong_with_it() {
     let checks = checks(20).expect("the cases are readable");
-    for (said, call) in CALLS {
+    for (said, call) in CALLS.iter().chain(ROUNDING) {
         tells(&checks, &Wrong { call: *call, ..RIGHT }, said);
+    }
+}
+
+/// The generated lists by themselves tell as much of rounding.
+#[test]
+fn wrong_rounding_is_told_by_generated_lists() {
+    let checks = checks(400).expect("the cases are readable");
+    let generated = |check: &&Check| check.name.ends_with("generated lists");
+    let generated = checks.iter().find(generated).expect("a check of generated lists");
+    for (number, (_, call)) in ROUNDING.iter().enumerate() {
+        let wrong = Wrong { call: *call, ..RIGHT };
+        let told = (generated.judge)(&wrong, &mut Tally::default());
+        assert!(told.is_err(), "wrong rounding {number} is not told");
     }
 }
 

@@ -104,8 +104,47 @@ fn the_bench_figures_stand_at_the_start() {
         model 3\n> PV 10\n< OK\n> OVP 10.4999\n< E04\n> OVP 10.5\n< OK\n\
         model 2\n> PV 12.5\n< OK\n> UVL 11.9\n< E06\n> PV 13\n< OK\n> UVL 11.9\n< OK\n\
         > UVL 11.9001\n< C05\n\
-        model 0\n> PV 5.00009\n< OK\n> PV?\n< 5.0000\n> RST\n< OK\n> PV?$E5\n< 0.0000$1E\n";
+        model 0\n> PV 5.00009\n< OK\n> PV?\n< 5.0001\n> RST\n< OK\n> PV?$E5\n< 0.0000$1E\n";
     assert!(stored().starts_with(figures));
+}
+
+/// The request's examples, as a reader of it works them out.
+#[test]
+fn the_examples_of_rounding_come_next() {
+    let all = stored();
+    for (word, ok, c05) in [("PV", " OK", " C05"), ("GPV", "", "")] {
+        let examples = format!(
+            "model 0\n> {word} 5.00009\n<{ok}\n> PV?\n< 5.0001\n\
+             > {word} 6.30005\n<{ok}\n> PV?\n< 6.3000\n\
+             > {word} 6.30015\n<{c05}\n> PV?\n< 6.3000\nmodel "
+        );
+        assert!(all.contains(&examples), "{word}");
+    }
+}
+
+/// Numbers with what they leave, worked out by hand: volts have four decimals, amperes three.
+#[rustfmt::skip]
+const ROUNDED: [(&str, &str); 32] = [
+    ("PV .00005", "0.0000"), ("PV .00015", "0.0002"), ("PV .00025", "0.0002"),
+    ("PV .00035", "0.0004"), ("PV 0.00005", "0.0000"), ("PV .0001500000", "0.0002"),
+    ("PV .00004999999", "0.0000"), ("PV .00005000001", "0.0001"), ("PV .00014999999", "0.0001"),
+    ("PV 5.0000500000", "5.0000"), ("PV 5.0000500001", "5.0001"), ("PV 5.0001499999", "5.0001"),
+    ("PV 0.99994", "0.9999"), ("PV 0.99995", "1.0000"), ("PV 99.99999", "100.0000"),
+    ("PV .0005", "0.0005"), ("PV 6.0015000001", "6.0015"), ("GPV 5.00015", "5.0002"),
+    ("GPV 000005.00015", "5.0002"), ("UVL .00015", "0.0002"), ("OVP 5.00005", "5.0000"),
+    ("OVP 5.00015", "5.0002"), ("PC .0005", "0.000"), ("PC .0015", "0.002"), ("PC .0025", "0.002"),
+    ("PC .0035", "0.004"), ("PC 6.0014999999", "6.001"), ("PC 6.0015000001", "6.002"),
+    ("PC 9.9995", "10.000"), ("PC 99.9994", "99.999"), ("PC .00015", "0.000"),
+    ("GPC 99.9995", "100.000"),
+];
+
+#[test]
+fn numbers_are_rounded_to_the_nearest_and_ties_to_the_even_one() {
+    let all = exchanges();
+    for (line, left) in ROUNDED {
+        let left_by = all.windows(2).find(|two| two[0].kept == line.as_bytes());
+        assert_eq!(left_by.expect(line)[1].reply, left, "{line}");
+    }
 }
 
 /// Each word with the error codes that lines alone can draw from it, apart from spoiled lines and

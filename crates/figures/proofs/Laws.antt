@@ -1,21 +1,24 @@
 -- Laws of reading: runs of digits, powers of ten, the first occurrence of a character, whole units, and numbers.
 use Prim.Native.Nat.{ℕ, zero, suc, _+_, _-_, _*_, _^_, _<_, _≤_}
 use mathlib.Core.Path.{_≡_, refl, ap, _∙_}
-use mathlib.Core.List.{List, [], _∷_}
+use mathlib.Core.List.{List, [], _∷_, _++_}
+use mathlib.Core.Logic.{_⊎_, inl, inr}
 use mathlib.Core.Bool.{Bool, true, false, and-eq-true-iff}
-use native.Mathlib.Nat.{pow-suc, pow-le-pow-right, mul-div-cancel, div-le-self, lt-of-le-of-lt, lt-of-lt-of-le, mul-lt-mul-of-pos-right}
+use native.Mathlib.Nat.{pow-suc, pow-le-pow-right, mul-le-mul-left, lt-of-le-of-lt, lt-of-lt-of-le, mul-lt-mul-of-pos-right}
 use native.Mathlib.Numerals.{add-one}
 use native.Mathlib.Omega.{arith}
 use lib.Arith.{digits-lt}
 use lib.Pow.{pow-add}
-use lib.Dec.{lit<, leb, eqb}
+use lib.Dec.{lit<, ltb, leb, eqb}
 use lib.ListN.{getD, length, take, drop, drop-of-length-le, length-take, length-drop}
 use lib.Seq.{drop-cons}
-use borrow.Author.Tests.{eq-eqb, ne-eqb, lt-leb, le-leb, lt-ltb, leb-true}
+use borrow.Author.Tests.{eq-eqb, ne-eqb, lt-leb, le-leb, lt-ltb, leb-true, ltb-true, ltb-false, eqb-true}
 use Rattle.base.specs.Choice.{pick}
 use Rattle.base.proofs.Choice.{pick-keeps}
 use Rattle.figures.specs.Digits.{digitOf, allDigits, runValue}
-use Rattle.figures.specs.Number.{firstAt, whole, fraction, wellFormed, wholeUnits, scaledValue, numberIs, noNumber, readNumber}
+use Rattle.figures.specs.Number.{firstAt, whole, fraction, wellFormed, wholeUnits, sideBySide, scaledValue, numberIs, noNumber, readNumber}
+use Rattle.figures.specs.Rounded.{RoundedTo, Spelled}
+use Rattle.figures.proofs.Rounding.{units-apart, within-half, whole-rounded, rounded-one}
 
 -- powers of ten
 pub pow-le : (k m : ℕ) → k ≤ m → 10 ^ k ≤ 10 ^ m
@@ -79,29 +82,34 @@ first-le x [] = omega arith
 first-le x (y ∷ ys) =
     pick-keeps (λ (n : ℕ). n ≤ suc (length ys)) (eqb y x) 0 (suc (firstAt x ys)) (omega arith) (omega (arith, first-le x ys))
 
--- what callers may use of wholeUnits: a whole number of units keeps its value, and no number grows
+-- what callers may use of wholeUnits: a whole number of units keeps its value, and a is never fewer than its units
 pub units-exact : (v d : ℕ) → 0 < d → wholeUnits (v * d) d ≡ v
-unfolding wholeUnits
-units-exact v d h = mul-div-cancel v h
+units-exact v d h =
+    rounded-one (v * d) d h (wholeUnits (v * d) d) v (whole-rounded (v * d) d h)
+    (within-half (v * d) d v (omega arith) (λ e. absurd (omega arith)))
 
 pub units-le : (a d : ℕ) → 0 < d → wholeUnits a d ≤ a
-unfolding wholeUnits
-units-le a d h = div-le-self a d
+units-le a d h = byTest (ltb a (wholeUnits a d)) refl
+  where
+    -- otherwise one unit less would be nearer
+    byTest : (b : Bool) → ltb a (wholeUnits a d) ≡ b → wholeUnits a d ≤ a
+    byTest false e = ltb-false a (wholeUnits a d) e
+    byTest true e =
+        let l = ltb-true a (wholeUnits a d) e in
+        let n = wholeUnits a d - 1 in
+        absurd (omega (arith, whole-rounded a d h .none-nearer n, units-apart d n (wholeUnits a d) (omega arith), mul-le-mul-left n h))
 
 -- the digits w and f side by side as one number; and the same with k more zeros
 module _ (w f : List ℕ) where
-  abbrev pub side : ℕ
-  side = runValue w (length w) * 10 ^ length f + runValue f (length f)
-
-  pub side-lt : side < 10 ^ (length w + length f)
+  pub side-lt : sideBySide w f < 10 ^ (length w + length f)
   side-lt = rw (pow-add 10 (length w) (length f)) (digits-lt (run-lt w (length w)) (run-lt f (length f)))
 
-  pub scale-lt : (k : ℕ) → side * 10 ^ k < 10 ^ (length w + length f + k)
+  pub scale-lt : (k : ℕ) → sideBySide w f * 10 ^ k < 10 ^ (length w + length f + k)
   scale-lt k = rw (pow-add 10 (length w + length f) k) (mul-lt-mul-of-pos-right side-lt (pow-pos k))
 
   pub scaled-lt : (k : ℕ) → scaledValue k w f < 10 ^ (length w + length f + k)
   unfolding scaledValue
-  scaled-lt k = lt-of-le-of-lt (units-le (side * 10 ^ k) (10 ^ length f) (pow-pos (length f))) (scale-lt k)
+  scaled-lt k = lt-of-le-of-lt (units-le (sideBySide w f * 10 ^ k) (10 ^ length f) (pow-pos (length f))) (scale-lt k)
 
 pub parts-le : (t : List ℕ) → length (whole t) + length (fraction t) ≤ length t
 parts-le t = simp (length-take, length-drop) (omega arith)
@@ -120,6 +128,34 @@ number-lt k t = byTest (wellFormed t) refl
         let n : length (whole t) + length (fraction t) ≤ 12 = omega (arith, parts-le t, well-short t e) in
         lt-of-lt-of-le (scaled-lt (whole t) (fraction t) k) (pow-le (length (whole t) + length (fraction t) + k) (12 + k) (omega arith))
     byTest false e = pow-pos (12 + k)
+
+-- WHAT A TEXT SPELLS
+pub spelled : (t : List ℕ) → Spelled t
+unfolding firstAt
+spelled [] = inr (refl, refl)
+spelled (y ∷ ys) = byTest (eqb y 46) refl (spelled ys)
+  where
+    byTest : (b : Bool) → eqb y 46 ≡ b → Spelled ys
+        → (y ∷ ys ≡ take (pick b 0 (suc (firstAt 46 ys))) (y ∷ ys) ++ (46 ∷ drop (pick b 0 (suc (firstAt 46 ys)) + 1) (y ∷ ys)))
+        ⊎ ((y ∷ ys ≡ take (pick b 0 (suc (firstAt 46 ys))) (y ∷ ys)) × (drop (pick b 0 (suc (firstAt 46 ys)) + 1) (y ∷ ys) ≡ []))
+    byTest true e h = inl (ap (λ (x : ℕ). x ∷ ys) (eqb-true y 46 e))
+    byTest false e (inl h) = inl (rw (add-one (suc (firstAt 46 ys))) (ap (λ (zs : List ℕ). y ∷ zs) (rw (add-one (firstAt 46 ys)) at h)))
+    byTest false e (inr h) = inr (ap (λ (zs : List ℕ). y ∷ zs) (h .0), rw (add-one (suc (firstAt 46 ys))) (rw (add-one (firstAt 46 ys)) at (h .1)))
+
+-- WHAT IS READ: a well-formed text reads as the number typed, rounded to units of the k-th decimal; and no other value
+-- is that
+module _ (k : ℕ) (t : List ℕ) (h : wellFormed t ≡ true) where
+  pub number-good : readNumber k t .good ≡ true
+  unfolding readNumber
+  number-good = rw h refl
+
+  pub number-rounded : RoundedTo k t (readNumber k t .value)
+  unfolding readNumber scaledValue
+  number-rounded = rw h (whole-rounded (sideBySide (whole t) (fraction t) * 10 ^ k) (10 ^ length (fraction t)) (pow-pos (length (fraction t))))
+
+  pub rounded-number : (v : ℕ) → RoundedTo k t v → v ≡ readNumber k t .value
+  rounded-number v r =
+      rounded-one (sideBySide (whole t) (fraction t) * 10 ^ k) (10 ^ length (fraction t)) (pow-pos (length (fraction t))) v (readNumber k t .value) r number-rounded
 
 -- a text that is too long
 pub read-long : (k : ℕ) (t : List ℕ) → 12 < length t → noNumber ≡ readNumber k t

@@ -1,5 +1,5 @@
 -- A number on the serial line: when it is well formed, and its value in units of a decimal place.
-use Prim.Native.Nat.{ℕ, suc, _+_, _*_, _/_, _^_}
+use Prim.Native.Nat.{ℕ, suc, _+_, _*_, _/_, _%_, _^_}
 use mathlib.Core.List.{List, [], _∷_}
 use mathlib.Core.Bool.{Bool, true, false, _&&_}
 use lib.ListN.{length, take, drop}
@@ -26,14 +26,24 @@ wellFormed t =
     leb (length t) 12
     && (allDigits (whole t) && (allDigits (fraction t) && ltb 0 (length (whole t) + length (fraction t))))
 
--- a in whole units of d, rounded down
-unfoldable pub wholeUnits : ℕ → ℕ → ℕ
-wholeUnits a d = a / d
+-- the even one of q and q + 1
+abbrev pub evenOf : ℕ → ℕ
+evenOf q = q + q % 2
 
--- the digits w before a point and f after it as one number, scaled to units of the k-th decimal and rounded down
+-- a in units of d, rounded to the nearest whole number; a tie goes to the even one
+unfoldable pub wholeUnits : ℕ → ℕ → ℕ
+wholeUnits a d =
+    pick (ltb (2 * (a % d)) d) (a / d)
+    (pick (ltb d (2 * (a % d))) (a / d + 1)
+    (evenOf (a / d)))
+
+-- the digits w before a point and f after it, side by side as one number
+abbrev pub sideBySide : List ℕ → List ℕ → ℕ
+sideBySide w f = runValue w (length w) * 10 ^ length f + runValue f (length f)
+
+-- the same digits as a number with decimals, in units of the k-th decimal, rounded
 unfoldable pub scaledValue : ℕ → List ℕ → List ℕ → ℕ
-scaledValue k w f =
-    wholeUnits ((runValue w (length w) * 10 ^ length f + runValue f (length f)) * 10 ^ k) (10 ^ length f)
+scaledValue k w f = wholeUnits (sideBySide w f * 10 ^ k) (10 ^ length f)
 
 -- the results of reading a text: the number v, or no number
 abbrev pub numberIs : ℕ → Number

@@ -88,12 +88,21 @@ fn pow10(k: usize) -> u64
     if k == 0 { 1 } else { pow10(k - 1) * 10 }
 }
 
-// a in whole units of d. Only this function decides what happens to digits below a unit.
+// a in units of d, rounded to the nearest whole number; a tie goes to the even one. Only this function decides what
+// happens to digits below a unit.
 fn whole_units(a: u64, d: u64) -> u64
     requires { ⌜ (a < 2 ^ 62) × (0 < d) × (d < 2 ^ 62) ⌝ }
     ensures { λ r. ⌜ r ≡ wholeUnits a d ⌝ }
 {
-    a / d
+    let below = a / d;
+    let twice = 2 * (a % d);
+    if twice < d {
+        below
+    } else if d < twice {
+        below + 1
+    } else {
+        below + below % 2
+    }
 }
 
 // The value of digits w before a point and f after it, in units of the k-th decimal.

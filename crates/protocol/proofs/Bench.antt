@@ -1,4 +1,4 @@
--- The ten bench figures, by computation.
+-- The ten bench figures, and those of rounding, by computation.
 use mathlib.Core.Path.{refl}
 use Rattle.models.specs.Models.{table, limitsOf, voltReading, ampReading}
 use Rattle.figures.specs.Digits.{allDigits, runValue}
@@ -24,8 +24,14 @@ use Rattle.command.specs.Lines.{rightChecksum, heardOf}
 use Rattle.texts.specs.Texts.{codeText, answerText, ending}
 use Rattle.reply.specs.Obeying.{saidOf}
 use Rattle.protocol.specs.Sent.{obeyed, repliedTo}
-use Rattle.protocol.specs.Bench.{benchFigures, BenchFigures}
+use Rattle.protocol.specs.Bench.{benchFigures, BenchFigures, roundedFigures, RoundedFigures}
+
+all-figures : BenchFigures × RoundedFigures
+unfolding benchFigures roundedFigures obeyed repliedTo saidOf codeText answerText ending heardOf asksOf rightChecksum askedBy parameterOf readAs findWord answerOf performed acted afterQuery clearingOrder clearingAct codeOf ordered outDone remote remoteBy orderCode setCode sampled turnedOn turned stepped nearestIn signedOf leastOf mostOf withSetting settingOf settled seveGained feveGained statOf onOf linesClear inLimit fltOf fresh figure decimals shortest fixed checksum total hexPair readHex hexOf isHex readNumber scaledValue wholeUnits wellFormed firstAt runValue allDigits voltReading ampReading limitsOf table
+all-figures = (refl, refl)
 
 pub bench : BenchFigures
-unfolding benchFigures obeyed repliedTo saidOf codeText answerText ending heardOf asksOf rightChecksum askedBy parameterOf readAs findWord answerOf performed acted afterQuery clearingOrder clearingAct codeOf ordered outDone remote remoteBy orderCode setCode sampled turnedOn turned stepped nearestIn signedOf leastOf mostOf withSetting settingOf settled seveGained feveGained statOf onOf linesClear inLimit fltOf fresh figure decimals shortest fixed checksum total hexPair readHex hexOf isHex readNumber scaledValue wholeUnits wellFormed firstAt runValue allDigits voltReading ampReading limitsOf table
-bench = refl
+bench = all-figures .0
+
+pub rounded-figures : RoundedFigures
+rounded-figures = all-figures .1

@@ -3,3 +3,4 @@ pub mod Verdicts
 pub mod SentBack
 pub mod Room
 pub mod Status
+pub mod Entered

@@ -19,13 +19,11 @@ use Rattle.supply.specs.declared.Target.{Target}
 use Rattle.supply.specs.declared.Target.the-variants.{Pv, Pc, Ovp, Uvl}
 use Rattle.supply.specs.declared.Order.the-variants.{Set}
 use Rattle.supply.specs.declared.Act.the-variants.{Obey, Ask}
-use Rattle.supply.specs.Registers.{feveGained, seveGained, settled}
-use Rattle.settings.specs.Settings.{settingOf, withSetting}
+use Rattle.settings.specs.Settings.{settingOf}
 use Rattle.settings.specs.Lawful.{Lawful}
 use Rattle.settings.proofs.Knob.{same-setting}
 use Rattle.codes.specs.Codes.{orderCode}
-use Rattle.orders.specs.Orders.{remote, remoteBy, ordered}
-use Rattle.acts.specs.Acts.{codeOf, clearingOrder, clearingAct, acted, performed}
+use Rattle.acts.specs.Acts.{codeOf, performed}
 use Rattle.answers.specs.Answers.{answerOf}
 use Rattle.guarantees.proofs.Keeps.{admissible-accepted}
 use Rattle.asks.specs.declared.Asks.the-variants.{One}
@@ -37,6 +35,7 @@ use Rattle.texts.specs.Texts.{answerText, ending}
 use Rattle.reply.specs.Obeying.{saidOf}
 use Rattle.protocol.specs.Sent.{repliedTo}
 use Rattle.protocol.specs.SentBack.{queryOf, queryWord, orderWord, SentBack}
+use Rattle.protocol.proofs.Entered.{set-taken}
 
 -- a figure with decimals is not empty, and its third character from the end is a digit
 figure-length : (k v : ℕ) → length (figure (suc k) v) ≡ length (shortest 20 (v / 10 ^ suc k)) + suc (suc k)
@@ -96,32 +95,8 @@ sent-accepted : (m : ℕ) (s : Supply) (t : Target) → Lawful m s → codeOf m 
 unfolding codeOf orderCode
 sent-accepted m s t h = admissible-accepted (limitsOf m) s t (settingOf t s) (rw (same-setting s t) h)
 
-remote-setting : (t : Target) (s : Supply) → settingOf t (remote s) ≡ settingOf t s
-unfolding remote settingOf
-remote-setting Pv s = refl
-remote-setting Pc s = refl
-remote-setting Ovp s = refl
-remote-setting Uvl s = refl
-
-remote-by-setting : (t : Target) (s : Supply) → settingOf t (remoteBy t s) ≡ settingOf t s
-unfolding remoteBy
-remote-by-setting Pv s = remote-setting Pv s
-remote-by-setting Pc s = remote-setting Pc s
-remote-by-setting Ovp s = refl
-remote-by-setting Uvl s = refl
-
-settled-setting : (t : Target) (m : ℕ) (s u : Supply) → settingOf t (settled m s u) ≡ settingOf t u
-unfolding settled seveGained feveGained settingOf
-settled-setting Pv m s u = refl
-settled-setting Pc m s u = refl
-settled-setting Ovp m s u = refl
-settled-setting Uvl m s u = refl
-
 sent-leaves : (m : ℕ) (s : Supply) (t : Target) → Lawful m s → settingOf t (performed m s (Obey (Set t (settingOf t s)))) ≡ settingOf t s
-unfolding performed acted ordered clearingAct clearingOrder
-sent-leaves m s t h =
-    rw (sent-accepted m s t h)
-    (settled-setting t m s (remoteBy t (withSetting t (settingOf t s) s)) ∙ remote-by-setting t (withSetting t (settingOf t s) s) ∙ ap (settingOf t) (same-setting s t))
+sent-leaves m s t h = set-taken m s t (settingOf t s) (sent-accepted m s t h)
 
 query-asked : (t : Target) → heardOf (queryWord t) false ≡ heardAs (One (Ask (queryOf t))) false
 unfolding heardOf asksOf askedBy parameterOf findWord firstAt

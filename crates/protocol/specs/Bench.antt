@@ -55,7 +55,7 @@ benchFigures =
     ("OK" ∷ "E06" ∷ "OK" ∷ "OK" ∷ "C05" ∷ []) ∷
     benchFigure 11 (counts 65535 0 ∷ line "MV?" ∷ []) ("786.4200" ∷ []) ∷
     benchFigure 0 (counts 65535 0 ∷ line "MV?" ∷ []) ("7.8642" ∷ []) ∷
-    benchFigure 0 (line "PV 5.00009" ∷ line "PV?" ∷ []) ("OK" ∷ "5.0000" ∷ []) ∷
+    benchFigure 0 (line "PV 5.00009" ∷ line "PV?" ∷ []) ("OK" ∷ "5.0001" ∷ []) ∷
     benchFigure 0 (line "PV?$E5" ∷ []) ("0.0000$1E" ∷ []) ∷
     benchFigure 6 (step Pv 6000000 ∷ line "PV?" ∷ []) ("62.8571" ∷ []) ∷
     benchFigure 0
@@ -69,3 +69,13 @@ benchFigures =
 -- THE TEN BENCH FIGURES, byte for byte
 abbrev pub BenchFigures : Type 0
 BenchFigures = map drawn benchFigures ≡ map expected benchFigures
+
+-- and those that the request to round entries gives with the new seventh: a tie at the limit, and a number beyond it
+unfoldable pub roundedFigures : List BenchFigure
+roundedFigures =
+    benchFigure 0 (line "PV 6.30005" ∷ line "PV?" ∷ []) ("OK" ∷ "6.3000" ∷ []) ∷
+    benchFigure 0 (line "PV 6.30015" ∷ []) ("C05" ∷ []) ∷
+    []
+
+abbrev pub RoundedFigures : Type 0
+RoundedFigures = map drawn roundedFigures ≡ map expected roundedFigures

@@ -3,3 +3,4 @@ pub mod Verdicts
 pub mod Bench
 pub mod SentBack
 pub mod Status
+pub mod Entered

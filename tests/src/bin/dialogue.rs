@@ -87,6 +87,32 @@ const NUMBERS: [&[u8]; 64] = [
     b"5\x00", b"\x00", b"5\x7F", b"\x80", b"\xB5", b"5.\xB0", b"5\xFF",
 ];
 
+/// Numbers with digits below a tick: at a tie over even and odd ticks, as near to one as 12 characters
+/// can come, and nines that carry. Those of 13 characters are malformed.
+#[rustfmt::skip]
+const BELOW_A_TICK: [&str; 44] = [
+    ".00005", "0.00005", ".00015", "0.00015", ".00025", ".00035", ".0001500000", ".00004999999",
+    ".00005000000", ".00005000001", ".00014999999", ".00015000001", "0.0001499999", "0.0001500001",
+    ".00000000009", "5.00004", "5.00005", "5.00006", "5.00014", "5.00015", "5.00016", "5.000049",
+    "5.00005000", "5.000051", "5.0000499999", "5.0000500000", "5.0000500001", "5.0001499999",
+    "5.0001500000", "5.0001500001", "000005.00015", "0000005.00015", "5.00015000000",
+    ".000150000000", "0.99994", "0.99995", "0.99999", ".99999999999", ".99994999999", "9.99995",
+    "99.99995", "99.99999", "99999999.995", "999999.99995",
+];
+
+/// The same below a mA.
+#[rustfmt::skip]
+const BELOW_A_MILLIAMPERE: [&str; 32] = [
+    ".0005", "0.0005", ".0015", "0.0015", ".0025", ".0035", ".00150000000", ".00049999999",
+    ".00050000001", ".00149999999", ".00150000001", "6.0004", "6.0005", "6.0006", "6.0014", "6.0015",
+    "6.0016", "6.00049", "6.00051", "6.0014999999", "6.0015000000", "6.0015000001", "0000006.0015",
+    "00000006.0015", "6.00150000000", "0.9994", "0.9995", "0.9999", "9.9995", "99.9995", "99.9994",
+    "9999999.9995",
+];
+
+/// What is written behind a whole unit to round it up or down: ties, and their neighbours.
+const FURTHER: [&str; 5] = ["49", "499", "5", "500", "501"];
+
 /// Digits, their neighbours in the character code, and texts that are not a single digit.
 #[rustfmt::skip]
 const DIGITS: [&[u8]; 24] = [
@@ -195,6 +221,7 @@ fn main() -> io::Result<()> {
 fn dialogue() -> String {
     let mut dialogue = Dialogue { supply: Supply::fresh(0), text: String::new() };
     dialogue.bench_figures();
+    dialogue.examples_of_rounding();
     dialogue.letters_of_either_case();
     dialogue.verdicts();
     dialogue.unknown_words();
@@ -204,6 +231,7 @@ fn dialogue() -> String {
     dialogue.look();
     dialogue.sums();
     dialogue.numbers();
+    dialogue.rounding();
     dialogue.switches();
     dialogue.enables();
     dialogue.addresses();
@@ -294,6 +322,16 @@ impl Dialogue {
         for (model, lines) in talks {
             self.begin(model);
             self.say_all(lines);
+        }
+    }
+
+    /// The request's three examples, and the same to everyone.
+    fn examples_of_rounding(&mut self) {
+        for word in ["PV", "GPV"] {
+            self.begin(0);
+            for number in ["5.00009", "6.30005", "6.30015"] {
+                self.say_all(&[format!("{word} {number}").as_str(), "PV?"]);
+            }
         }
     }
 
@@ -437,6 +475,21 @@ impl Dialogue {
         self.look();
     }
 
+    /// Digits below a tick and below a mA, each for volts and for amperes, and what they leave.
+    fn rounding(&mut self) {
+        for word in ["PV", "PC", "GPV", "GPC", "UVL", "OVP"] {
+            self.begin(if word.ends_with("PC") { 0 } else { 11 });
+            if word == "UVL" {
+                self.say("PV 600");
+            }
+            for number in BELOW_A_TICK.iter().chain(&BELOW_A_MILLIAMPERE) {
+                self.say(format!("{word} {number}"));
+                self.say(query_of(word));
+            }
+        }
+        self.look();
+    }
+
     /// Each digit and its neighbours, for each word that takes a digit.
     fn switches(&mut self) {
         self.begin(5);
@@ -513,8 +566,13 @@ impl Dialogue {
         self.say(format!("{word} {text}"));
     }
 
-    /// Orders one below, one above and at a bound, and what they left.
+    /// Orders that are rounded to a bound or away from it, then one below, one above and at it, and
+    /// what they left.
     fn around(&mut self, target: Target, bound: i64) {
+        for value in [bound - 1, bound] {
+            let (word, text) = setting(target, value.max(0));
+            FURTHER.iter().for_each(|more| self.order(word, format!("{text}{more}").as_bytes()));
+        }
         for value in [bound - 1, bound + 1, bound] {
             self.set(target, value);
         }
@@ -621,7 +679,11 @@ impl Dialogue {
             1 => most + draw.between(-1, 1),
             _ => draw.between(least, most),
         };
-        setting(target, value.max(0)).1
+        let text = setting(target, value.max(0)).1;
+        match draw.below(3) {
+            0 => text + draw.pick(&FURTHER),
+            _ => text,
+        }
     }
 }
 

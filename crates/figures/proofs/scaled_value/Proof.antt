@@ -6,13 +6,13 @@ use mathlib.Core.Path.{refl, _∙_}
 use Prim.Native.Nat.{_+_, _*_, _^_, _<_}
 use lib.ListN.{length}
 use lib.Dec.{lit<}
-use Rattle.figures.specs.Number.{scaledValue}
-use Rattle.figures.proofs.Laws.{side, side-lt, scale-lt, pow-pos, pow-le}
+use Rattle.figures.specs.Number.{sideBySide, scaledValue}
+use Rattle.figures.proofs.Laws.{side-lt, scale-lt, pow-pos, pow-le}
 use Rattle.figures.proofs.scaled_value.Statement.{statement}
 use Rattle.figures.proofs.scaled_value.Tie as tie
 
 -- all the digits as one number; and, with the code's names, the same with k more zeros
-all-lt : (c : tie.Start) → side (c .args .w .now) (c .args .f .now) < 10 ^ 12
+all-lt : (c : tie.Start) → sideBySide (c .args .w .now) (c .args .f .now) < 10 ^ 12
 all-lt c =
     let a = c .args in
     lt-of-lt-of-le (side-lt (a .w .now) (a .f .now)) (pow-le (length (a .w .now) + length (a .f .now)) 12 (omega arith))
