@@ -82,7 +82,7 @@ first-le x [] = omega arith
 first-le x (y ∷ ys) =
     pick-keeps (λ (n : ℕ). n ≤ suc (length ys)) (eqb y x) 0 (suc (firstAt x ys)) (omega arith) (omega (arith, first-le x ys))
 
--- what callers may use of wholeUnits: a whole number of units keeps its value, and a is never fewer than its units
+-- what callers may use of wholeUnits: a whole number of units keeps its value, and there are at most a units
 pub units-exact : (v d : ℕ) → 0 < d → wholeUnits (v * d) d ≡ v
 units-exact v d h =
     rounded-one (v * d) d h (wholeUnits (v * d) d) v (whole-rounded (v * d) d h)

@@ -26,12 +26,10 @@ use Rattle.reply.specs.Obeying.{saidOf}
 use Rattle.protocol.specs.Sent.{obeyed, repliedTo}
 use Rattle.protocol.specs.Bench.{benchFigures, BenchFigures, roundedFigures, RoundedFigures}
 
-all-figures : BenchFigures × RoundedFigures
-unfolding benchFigures roundedFigures obeyed repliedTo saidOf codeText answerText ending heardOf asksOf rightChecksum askedBy parameterOf readAs findWord answerOf performed acted afterQuery clearingOrder clearingAct codeOf ordered outDone remote remoteBy orderCode setCode sampled turnedOn turned stepped nearestIn signedOf leastOf mostOf withSetting settingOf settled seveGained feveGained statOf onOf linesClear inLimit fltOf fresh figure decimals shortest fixed checksum total hexPair readHex hexOf isHex readNumber scaledValue wholeUnits wellFormed firstAt runValue allDigits voltReading ampReading limitsOf table
-all-figures = (refl, refl)
-
 pub bench : BenchFigures
-bench = all-figures .0
+unfolding benchFigures obeyed repliedTo saidOf codeText answerText ending heardOf asksOf rightChecksum askedBy parameterOf readAs findWord answerOf performed acted afterQuery clearingOrder clearingAct codeOf ordered outDone remote remoteBy orderCode setCode sampled turnedOn turned stepped nearestIn signedOf leastOf mostOf withSetting settingOf settled seveGained feveGained statOf onOf linesClear inLimit fltOf fresh figure decimals shortest fixed checksum total hexPair readHex hexOf isHex readNumber scaledValue wholeUnits wellFormed firstAt runValue allDigits voltReading ampReading limitsOf table
+bench = refl
 
 pub rounded-figures : RoundedFigures
-rounded-figures = all-figures .1
+unfolding roundedFigures obeyed repliedTo saidOf codeText answerText ending heardOf asksOf askedBy parameterOf readAs findWord answerOf performed acted afterQuery clearingOrder clearingAct codeOf ordered remote remoteBy orderCode setCode withSetting settled seveGained feveGained fresh figure decimals shortest fixed readNumber scaledValue wholeUnits wellFormed firstAt runValue allDigits limitsOf table
+rounded-figures = refl

@@ -68,16 +68,19 @@ set-taken m s t n e =
     rw e
     (settled-setting t m s (remoteBy t (withSetting t n s)) ∙ remote-by-setting t (withSetting t n s) ∙ with-setting t n s)
 
+filled : (y : ℕ) (ys : List ℕ) → isEmpty (y ∷ ys) ≡ false
+filled y ys = ne-eqb (length (y ∷ ys)) 0 (λ n. omega arith)
+
 -- a well-formed number is not empty, nor is a line that has one
 some-number : (x : List ℕ) → wellFormed x ≡ true → isEmpty x ≡ false
 unfolding wellFormed firstAt allDigits
 some-number [] e = absurd (false≢true e)
-some-number (y ∷ ys) e = ne-eqb (length (y ∷ ys)) 0 (λ n. omega arith)
+some-number (y ∷ ys) e = filled y ys
 
 some-line : (u : List ℕ) → wellFormed (parameterText u) ≡ true → isEmpty u ≡ false
 unfolding firstAt
 some-line [] e = some-number [] e
-some-line (y ∷ ys) e = ne-eqb (length (y ∷ ys)) 0 (λ n. omega arith)
+some-line (y ∷ ys) e = filled y ys
 
 number-kind : (all : Bool) (t : Target) → kindOf (orderTo all (set t)) ≡ number (decimalsOf t)
 number-kind true t = refl
