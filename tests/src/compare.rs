@@ -5,12 +5,13 @@ use std::sync::atomic::{AtomicBool, AtomicU64, Ordering};
 use std::sync::Mutex;
 use std::time::{Duration, Instant};
 
+use crate::foldback::Foldback;
 use crate::generate::{generate, Draw, Input};
 use crate::outside;
 use crate::program;
 use crate::rack::{Rack, LEAST_ROOM, SLOTS};
 use crate::script;
-use crate::share::{self, Tally};
+use crate::share::{self, Call, Tally};
 
 const WORKERS: usize = 2;
 /// Shrinking stops after this many tries, or after this time if each try is slow.
@@ -266,6 +267,20 @@ pub fn service_counts(count: u64, seed: u64) -> Service {
         }
     }
     service
+}
+
+/// What generated inputs bring to foldback.
+pub fn foldback_counts(count: u64, seed: u64) -> Foldback {
+    let mut foldback = Foldback::default();
+    for number in 0..count {
+        let Input { parts } = generate(input_seed(seed, number));
+        if Rack::fit(&parts[0]).is_ok() {
+            let call = |part: &Vec<u8>| Call { bytes: part.clone(), room: LEAST_ROOM };
+            let calls: Vec<Call> = parts[1..].iter().map(call).collect();
+            foldback.note(&parts[0], &calls);
+        }
+    }
+    foldback
 }
 
 fn messages_in(said: &[u8]) -> usize {

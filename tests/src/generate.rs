@@ -135,6 +135,13 @@ const RAISED_AND_CLEARED: [&str; 14] = [
     "PC 0\rPC 1\rSEVE?\r",
 ];
 
+/// Lines that do not turn an output off, if foldback has not tripped.
+#[rustfmt::skip]
+const LEFT_ON: [&str; 14] = [
+    "OUT 1\r", "OUT 1\r", "FLD 0\r", "FLD 0\rFLD 1\r", "FLD 1\r", "GOUT 1\r", "RMT 0\r", "RMT 2\r",
+    "\r", "PV 999\r", "MODE?\r", "STT?\r", "FLT?\rFLD?\r", "CLS\r",
+];
+
 /// Globals that let something rise in many supplies at once, or clear it.
 const GLOBALS: [&str; 7] = ["GPC 0", "GPC 1", "GPC 1", "GOUT 0", "GOUT 1", "GOUT 1", "GRST"];
 
@@ -288,6 +295,7 @@ impl Maker {
             61..=62 => self.lines_come_and_go(),
             63..=65 => self.turn_on(),
             66..=69 => self.call_for_service(),
+            70..=72 => self.charge_a_cell(),
             _ => self.event(),
         }
     }
@@ -609,6 +617,9 @@ impl Maker {
         let habit = self.draw.pick(&["FLD 1", "AST 1", "FENA FF", "SENA FF", "RMT 2", "CLS"]);
         self.say(habit);
         self.flush();
+        if self.draw.percent(80) {
+            self.push_sample(slot, 0, 0);
+        }
         let over = self.draw.percent(50);
         let (volts, amperes) = if over { (65_535, 0) } else { (0, 65_535) };
         self.push_sample(slot, volts, amperes);
@@ -618,6 +629,144 @@ impl Maker {
         self.release(slot);
         self.say("FLT?");
         self.flush();
+    }
+
+    /// A cell that charges: on in current limit, below it, and up to it again, with what leaves the
+    /// CV memory and what takes it away.
+    fn charge_a_cell(&mut self) {
+        let Some(slot) = self.focus() else { return };
+        self.flush();
+        if !self.rack.kept.is_empty() {
+            self.send("\r");
+        }
+        self.push(4, &[slot as u8, 0]);
+        self.send(&format!("ADR {slot}\r"));
+        self.arm(slot);
+        for _ in 0..1 + self.draw.below(3) {
+            self.charge(slot);
+            self.off_and_on(slot);
+            self.arm(slot);
+            for _ in 0..1 + self.draw.below(2) {
+                self.sample_beside_pc(slot, true);
+            }
+        }
+        self.charge(slot);
+    }
+
+    /// On, with a PC that currents can be below; mostly with foldback armed.
+    fn arm(&mut self, slot: usize) {
+        let supply = self.supply(slot);
+        let (most, low, on) = (supply.limits().pc_most(), supply.pc == 0, supply.output_on());
+        if low && self.draw.percent(90) {
+            let amperes = self.draw.between(1, most);
+            self.send(&format!("PC {}\r", amperes_text(amperes)));
+        }
+        if self.draw.percent(80) {
+            self.send("FLD 1\r");
+        }
+        if !on {
+            self.send("OUT 1\r");
+        }
+    }
+
+    /// In current limit for a while, mostly below it next, and often up to it again. Sometimes
+    /// foldback is armed only in between.
+    fn charge(&mut self, slot: usize) {
+        let armed_later = self.draw.percent(25);
+        if armed_later {
+            self.send("FLD 0\r");
+        }
+        for _ in 0..self.draw.below(3) {
+            self.sample_beside_pc(slot, true);
+        }
+        if self.draw.percent(85) {
+            self.sample_beside_pc(slot, false);
+        }
+        for _ in 0..self.draw.below(4) {
+            self.leave_on(slot);
+        }
+        if armed_later {
+            self.send("FLD 1\r");
+        }
+        if self.draw.percent(40) {
+            self.sample_beside_pc(slot, true);
+        }
+    }
+
+    /// A sample that reads PC or more, or less; mostly next to it.
+    fn sample_beside_pc(&mut self, slot: usize, reaches: bool) {
+        let supply = self.supply(slot);
+        let model = supply.limits();
+        let first = |value: i64, rated: i64| (value * 50_000 + rated - 1) / rated;
+        let (over, limit) =
+            (first(supply.ovp, model.rated_volts), first(supply.pc, model.rated_amperes));
+        let near = self.draw.percent(60);
+        let amperes = match (reaches, near) {
+            (true, true) => limit,
+            (true, false) => self.draw.between(limit, 65_535),
+            (false, true) => limit - 1,
+            (false, false) => self.draw.between(0, limit - 1),
+        };
+        let volts = self.draw.between(0, over - 1);
+        self.push_sample(slot, volts as u16, amperes.max(0) as u16);
+    }
+
+    /// Something that does not turn an output off.
+    fn leave_on(&mut self, slot: usize) {
+        let slot_byte = slot as u8;
+        let line = self.draw.pick(&LEFT_ON);
+        let reading = self.supply(slot).ampere_reading() + self.draw.between(-1, 1);
+        match self.draw.below(8) {
+            0 => {
+                let word = self.draw.pick(&["PC", "PC", "GPC"]);
+                self.send(&format!("{word} {}\r", amperes_text(reading.max(0))));
+            }
+            1 => self.push(4, &[slot_byte, 0]),
+            2 => {
+                let key = self.draw.pick(&[1, 2]);
+                self.push(2, &[slot_byte, key]);
+            }
+            3 => {
+                let step = self.draw.between(-2, 2) as i32;
+                self.send("RMT 0\r");
+                self.push(3, &[&[slot_byte, 1], &step.to_be_bytes()[..]].concat());
+            }
+            _ => self.send(line),
+        }
+    }
+
+    /// Off in any of the ways in which an output goes off, and mostly on again.
+    fn off_and_on(&mut self, slot: usize) {
+        let slot_byte = slot as u8;
+        match self.draw.below(11) {
+            0 => self.send("OUT 0\rOUT 1\r"),
+            1 => self.send("GOUT 0\rGOUT 1\r"),
+            2 => self.send("RST\r"),
+            3 => self.send("GRST\rGOUT 1\r"),
+            4..=5 => {
+                self.send("RMT 0\r");
+                self.push(2, &[slot_byte, 0]);
+                self.push(2, &[slot_byte, 0]);
+            }
+            6..=7 => {
+                let (ast, lines) = (self.draw.below(2), self.draw.pick(&[AC, OTP, SO, ENA]));
+                self.send(&format!("AST {ast}\r"));
+                self.push(4, &[slot_byte, lines]);
+                self.sample_beside_pc(slot, false);
+                self.push(4, &[slot_byte, 0]);
+            }
+            8 => {
+                let amperes = self.draw.pick(&[0, 65_535]);
+                self.push_sample(slot, 65_535, amperes);
+                self.release(slot);
+                self.flush();
+            }
+            _ => {
+                self.sample_beside_pc(slot, true);
+                self.release(slot);
+                self.flush();
+            }
+        }
     }
 
     /// Lines that rise and fall while the output is ordered on, with AST changing meanwhile.

@@ -7,6 +7,7 @@ pub mod counts;
 pub mod direct;
 pub mod documents;
 pub mod faults;
+pub mod foldback;
 pub mod generate;
 pub mod line;
 pub mod live;

@@ -242,7 +242,12 @@ pub fn obey(supply: &mut Supply, said: Result<Said, Code>) -> Answer {
     let done = said.and_then(|said| match said {
         Said::Order(order) => supply.order(order).map(|()| OK),
         Said::Query(query) => Ok(supply.ask(query)),
-        Said::Nothing | Said::Select(_) => Ok(OK),
+        Said::Nothing => {
+            supply.hear_nothing();
+            Ok(OK)
+        }
+        // It is about the rack, and no supply's share has it.
+        Said::Select(_) => Ok(OK),
     });
     done.unwrap_or_else(|code| Answer::Word(code.text()))
 }

@@ -5,7 +5,7 @@
 
 use crate::line;
 use crate::rack::{Rack, LEAST_ROOM};
-use crate::supply::{Event, Key, Releases, Supply, Target};
+use crate::supply::{Event, Key, Query, Releases, Supply, Target};
 
 /// One field call: the bytes lent and the size of the reply buffer.
 #[derive(Clone, Debug)]
@@ -185,16 +185,18 @@ pub struct Step {
     pub call: usize,
     pub tripped: Releases,
     pub released: Releases,
+    /// What MODE? says after a sample that found the output on.
+    pub judged: Option<String>,
     pub after: Supply,
 }
 
 /// What an entry says to the plain supply.
-enum Input {
+pub enum Input {
     Event(Event),
     Line(line::Reading),
 }
 
-fn input(entry: &Entry) -> Input {
+pub fn input(entry: &Entry) -> Input {
     match entry {
         Moment::Field { tag, payload, .. } => Input::Event(event(*tag, payload)),
         Moment::Line { kept, spoiled, .. } => match sort(kept, *spoiled) {
@@ -239,7 +241,13 @@ fn take(supply: &mut Supply, entry: &Entry) -> Step {
         fold: supply.fold_trip && !before.fold_trip,
         ovp: supply.ovp_trip && !before.ovp_trip,
     };
-    Step { call: entry.call(), tripped, released, after: supply.clone() }
+    let judged = judged(&before, entry, supply);
+    Step { call: entry.call(), tripped, released, judged, after: supply.clone() }
+}
+
+fn judged(before: &Supply, entry: &Entry, after: &Supply) -> Option<String> {
+    let sample = matches!(entry, Moment::Field { tag: 5, .. });
+    (sample && before.output_on()).then(|| after.clone().ask(Query::Mode).to_string())
 }
 
 /// The plain supply of that model, run on a share from fresh.
@@ -270,7 +278,7 @@ impl Tally {
     }
 }
 
-/// Checks one list of calls as a whole: shares, margins, off until release, and messages.
+/// Checks one list of calls as a whole: shares, margins, off until release, foldback and messages.
 pub fn check(fitting: &[u8], calls: &[Call]) -> Result<Tally, String> {
     let (racks, said) = each_call(fitting, calls)?;
     let mut speakers = vec![Vec::new(); calls.len()];
@@ -282,6 +290,7 @@ pub fn check(fitting: &[u8], calls: &[Call]) -> Result<Tally, String> {
         check_states(*model, slot, &racks, &steps).map_err(wrong)?;
         check_off_until_release(slot, &racks, &steps).map_err(wrong)?;
         check_trips_end_by_release(*model, &steps).map_err(wrong)?;
+        check_foldback(&steps).map_err(wrong)?;
         calls_that_fill_a_register(*model, &steps).for_each(|call| speakers[call].push(slot));
         tally.entries += steps.len();
         tally.trips += steps.iter().filter(|step| step.tripped != Releases::default()).count();
@@ -396,6 +405,27 @@ fn check_trips_end_by_release(model: u8, steps: &[Step]) -> Result<(), String> {
             return Err(format!("call {}: a trip and its releases do not agree", step.call));
         }
         before = step.after.clone();
+    }
+    Ok(())
+}
+
+/// Foldback trips at a sample in current limit if one was judged CV since the output came on, and at
+/// no other; the supply remembers just that, and nothing while its output is off.
+fn check_foldback(steps: &[Step]) -> Result<(), String> {
+    let mut remembered = false;
+    for step in steps {
+        let (after, judged) = (&step.after, step.judged.as_deref());
+        let missed = remembered && after.armed && judged == Some("CC");
+        if missed || step.tripped.fold && !remembered {
+            return Err(format!(
+                "call {}: foldback and the samples before do not agree",
+                step.call
+            ));
+        }
+        remembered = after.output_on() && (remembered || judged == Some("CV"));
+        if after.cv_seen != remembered {
+            return Err(format!("call {}: the CV memory should be {remembered}", step.call));
+        }
     }
     Ok(())
 }

@@ -262,6 +262,8 @@ pub struct Supply {
     pub feve: u8,
     pub sena: u8,
     pub seve: u8,
+    /// A sample was judged CV since the output came on, so that foldback may trip.
+    pub cv_seen: bool,
     pub volt_count: u16,
     pub ampere_count: u16,
 }
@@ -294,6 +296,7 @@ impl Supply {
             feve: 0,
             sena: 0,
             seve: 0,
+            cv_seen: false,
             volt_count: 0,
             ampere_count: 0,
         }
@@ -357,11 +360,25 @@ impl Supply {
         Found { flt: self.flt(), fena: self.fena, stat: self.stat(), sena: self.sena }
     }
 
+    /// What every event ends with: an output that is off has no CV memory, and the registers gain.
+    fn end_event(&mut self, before: &Found) {
+        if !self.output_on() {
+            self.cv_seen = false;
+        }
+        self.keep_what_rose(before);
+    }
+
     /// Clause "An event": either register takes what rose and was enabled before the event. STAT
     /// tells whether FEVE holds anything, so FEVE comes first.
     fn keep_what_rose(&mut self, before: &Found) {
         self.feve |= self.flt() & !before.flt & before.fena;
         self.seve |= self.stat() & !before.stat & before.sena;
+    }
+
+    /// The empty line: it orders nothing, and is an event like any line obeyed.
+    pub fn hear_nothing(&mut self) {
+        let before = self.found();
+        self.end_event(&before);
     }
 
     pub fn event(&mut self, event: Event) {
@@ -372,7 +389,7 @@ impl Supply {
             Event::Lines(lines) => self.set_lines(lines),
             Event::Sample { volts, amperes } => self.sample(volts, amperes),
         }
-        self.keep_what_rose(&before);
+        self.end_event(&before);
     }
 
     /// Clause "Lines event": its three sentences apply side by side, each judged on the change.
@@ -412,6 +429,8 @@ impl Supply {
         Supply::reading(self.ampere_count, self.limits().rated_amperes)
     }
 
+    /// The CV memory is asked as it was before the sample. It is kept with foldback unarmed too,
+    /// and so counts from the moment that foldback is armed.
     fn sample(&mut self, volts: u16, amperes: u16) {
         let was_on = self.output_on();
         self.volt_count = volts;
@@ -421,7 +440,9 @@ impl Supply {
         }
         if self.volt_reading() >= self.ovp {
             self.ovp_trip = true;
-        } else if self.armed && self.ampere_reading() >= self.pc {
+        } else if self.ampere_reading() < self.pc {
+            self.cv_seen = true;
+        } else if self.armed && self.cv_seen {
             self.fold_trip = true;
         }
     }
@@ -494,7 +515,7 @@ impl Supply {
         if takes_over && self.mode == Mode::Local {
             self.mode = Mode::Remote;
         }
-        self.keep_what_rose(&before);
+        self.end_event(&before);
         if matches!(order, Order::Cls | Order::Rst) {
             // Also what the clearing itself lets rise: WANT off in FLT, no fault in STAT.
             self.feve = 0;
@@ -562,7 +583,7 @@ impl Supply {
     pub fn ask(&mut self, query: Query) -> Answer {
         let before = self.found();
         let answer = self.answer(query);
-        self.keep_what_rose(&before);
+        self.end_event(&before);
         answer
     }
 

@@ -2,8 +2,8 @@
 //! line of decimal numbers for a program that tries another supply on the same.
 //!
 //! The numbers of a line: the model; the state before (PV PC OVP UVL WANT ARMED AST MODE LINES
-//! FOLD-trip OVP-trip FENA FEVE SENA SEVE volt-count ampere-count); the act's kind and two operands;
-//! the error code, or 0 if accepted; the state after; the answer's kind and six values.
+//! FOLD-trip OVP-trip FENA FEVE SENA SEVE CV-seen volt-count ampere-count); the act's kind and two
+//! operands; the error code, or 0 if accepted; the state after; the answer's kind and six values.
 
 use crate::supply::{Code, Event, Key, Mode, Order, Query, Supply, Target};
 
@@ -35,8 +35,12 @@ pub struct Expected {
 pub const EXPECTED: usize = 1 + STATE + ANSWER;
 
 /// How many numbers a state is, and an answer.
-const STATE: usize = 17;
+const STATE: usize = 18;
 const ANSWER: usize = 7;
+
+// Where two of the expected numbers stand: the FOLD trip and the CV memory after the act.
+pub const FOLD_TRIP: usize = 1 + 9;
+pub const CV_SEEN: usize = 1 + 15;
 
 // The kinds of act, as the lines number them.
 const NOTHING: i64 = 0;
@@ -70,7 +74,7 @@ impl Trial {
         let mut after = self.before.clone();
         let (mut code, mut answer) = (None, None);
         match self.act {
-            Act::Nothing => {}
+            Act::Nothing => after.hear_nothing(),
             Act::Event(event) => after.event(event),
             Act::Order(order) => code = after.order(order).err(),
             Act::Query(query) => answer = Some(after.ask(query).to_string()),
@@ -126,6 +130,7 @@ fn state_numbers(supply: &Supply) -> [i64; STATE] {
         i64::from(supply.feve),
         i64::from(supply.sena),
         i64::from(supply.seve),
+        i64::from(supply.cv_seen),
         i64::from(supply.volt_count),
         i64::from(supply.ampere_count),
     ]

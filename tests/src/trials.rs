@@ -7,7 +7,7 @@ use std::collections::{BTreeSet, HashSet};
 use crate::generate::Draw;
 use crate::supply::{Event, Key, Mode, Order, Query, Supply, Target};
 use crate::supply::{AC, ENA, LINE_BITS, MODELS, OTP, SO};
-use crate::trial::{Act, Trial, EXPECTED, QUERIES};
+use crate::trial::{Act, Trial, CV_SEEN, EXPECTED, FOLD_TRIP, QUERIES};
 
 const SEED: u64 = 3;
 const TARGETS: [Target; 4] = [Target::Pv, Target::Pc, Target::Ovp, Target::Uvl];
@@ -35,10 +35,27 @@ pub fn table() -> String {
 }
 
 /// One trial with each expected number changed in turn: a program that reports none of them
-/// compares nothing.
+/// compares nothing. Then some that are wrong about foldback.
 pub fn wrong() -> Vec<String> {
     let trial = Trial { before: Supply::fresh(0), act: Act::Query(Query::Flt) };
-    (0..EXPECTED).map(|number| trial.line_wrong_at(number)).collect()
+    let each = (0..EXPECTED).map(|number| trial.line_wrong_at(number));
+    each.chain(wrong_about_foldback()).collect()
+}
+
+/// A sample judged CV that is not remembered, one in current limit that is, one that trips without
+/// the memory, and an output that goes off and keeps it.
+fn wrong_about_foldback() -> [String; 4] {
+    let on = Supply { pc: 10_000, want: true, armed: true, ..Supply::fresh(0) };
+    let sample = |amperes| Act::Event(Event::Sample { volts: 0, amperes });
+    let below = Trial { before: on.clone(), act: sample(TEN_AMPERES - 1) };
+    let in_limit = Trial { before: on.clone(), act: sample(TEN_AMPERES) };
+    let off = Trial { before: Supply { cv_seen: true, ..on }, act: Act::Order(Order::Out(false)) };
+    [
+        below.line_wrong_at(CV_SEEN),
+        in_limit.line_wrong_at(CV_SEEN),
+        in_limit.line_wrong_at(FOLD_TRIP),
+        off.line_wrong_at(CV_SEEN),
+    ]
 }
 
 pub fn all() -> Vec<Trial> {
@@ -57,6 +74,7 @@ pub fn all() -> Vec<Trial> {
     table.register_orders();
     table.status_orders();
     table.status_rises();
+    table.memories();
     table.faults_told();
     table.queries_in_every_mode();
     table.trials
@@ -170,8 +188,9 @@ fn regulated() -> Vec<Supply> {
     ]
 }
 
-/// The ampere count that reads 10 A on model 0.
+/// The ampere count that reads 10 A on model 0, and the volt count that reads its highest OVP.
 const TEN_AMPERES: u16 = 5_000;
+const HIGHEST_OVP: u16 = 62_500;
 
 /// What can make a bit of STAT rise or fall, and what cannot.
 fn status_acts() -> Vec<Act> {
@@ -207,6 +226,48 @@ fn status_acts() -> Vec<Act> {
     orders.chain(queries.map(Act::Query)).chain(events.map(Act::Event)).collect()
 }
 
+/// Every order, with one that is refused where it can be, every query, and the empty line.
+fn every_line() -> Vec<Act> {
+    let switches = [false, true].into_iter();
+    let switches = switches.flat_map(|on| [Order::Out(on), Order::Fld(on), Order::Ast(on)]);
+    let orders = [
+        Order::Pv(1),
+        Order::Pv(FAR[0]),
+        Order::Pc(0),
+        Order::Pc(9_999),
+        Order::Pc(10_000),
+        Order::Pc(10_001),
+        Order::Pc(FAR[0]),
+        Order::Ovp(70_000),
+        Order::Ovp(0),
+        Order::Ovm,
+        Order::Uvl(0),
+        Order::Uvl(1),
+        Order::Fena(255),
+        Order::Sena(255),
+        Order::Cls,
+        Order::Rst,
+    ];
+    let orders = orders.into_iter().chain(switches).chain(MODES.map(Order::Rmt));
+    let lines = orders.map(Act::Order).chain(QUERIES.map(Act::Query));
+    lines.chain([Act::Nothing]).collect()
+}
+
+/// Keys, knob steps and LINES bytes for a supply in local mode.
+fn every_event_but_samples() -> Vec<Act> {
+    let keys = KEYS.into_iter().map(Event::Key);
+    let knob = TARGETS.into_iter().flat_map(|target| [-1, 1].map(|step| Event::Knob(target, step)));
+    let lines = [0, AC, OTP, SO, ENA].map(Event::Lines);
+    keys.chain(knob).chain(lines).map(Act::Event).collect()
+}
+
+/// Samples around 10 A, below OVP and at it.
+fn samples_around_pc() -> Vec<Act> {
+    let amperes = [0, TEN_AMPERES - 1, TEN_AMPERES, TEN_AMPERES + 1].into_iter();
+    let counts = amperes.flat_map(|amperes| [HIGHEST_OVP - 1, HIGHEST_OVP].map(|it| (it, amperes)));
+    counts.map(|(volts, amperes)| Act::Event(Event::Sample { volts, amperes })).collect()
+}
+
 struct Table {
     trials: Vec<Trial>,
     draw: Draw,
@@ -233,8 +294,9 @@ impl Table {
         self.draw.below(2) == 1
     }
 
-    /// A supply of any model with fresh settings and no trip; switches, MODE and registers are
-    /// drawn.
+    /// A supply of any model with fresh settings and no trip; switches, MODE, registers and the
+    /// CV memory are drawn. Fields never lead to that memory with the output off, but the sentence
+    /// that forgets it is about every event.
     fn any(&mut self) -> Supply {
         let model = self.draw.below(MODELS.len() as u64) as u8;
         Supply {
@@ -246,6 +308,7 @@ impl Table {
             feve: self.draw.pick(&REGISTERS),
             sena: self.draw.pick(&STATUS_REGISTERS),
             seve: self.draw.pick(&STATUS_REGISTERS),
+            cv_seen: self.coin(),
             ..Supply::fresh(model)
         }
     }
@@ -303,14 +366,15 @@ impl Table {
         }
     }
 
-    /// Samples around OVP and PC and at the ends, ARMED on and off; then with the output off.
+    /// Samples around OVP and PC and at the ends, ARMED on and off, with the CV memory and without
+    /// it; then with the output off.
     fn samples(&mut self, supply: &Supply) {
         let limits = supply.limits();
         let volts = first_count(supply.ovp, limits.rated_volts);
         let amperes = first_count(supply.pc, limits.rated_amperes);
         let (below, under) = (volts - 1, amperes.saturating_sub(1));
         let on = Supply { want: true, volt_count: 1, ampere_count: 2, ..supply.clone() };
-        for armed in [false, true] {
+        for (armed, cv_seen) in [(false, false), (false, true), (true, false), (true, true)] {
             for (volts, amperes) in [
                 (below, under),
                 (below, amperes),
@@ -321,7 +385,7 @@ impl Table {
                 (u16::MAX, 0),
             ] {
                 let (mode, fena) = (self.draw.pick(&MODES), self.draw.pick(&REGISTERS));
-                let supply = Supply { armed, mode, fena, ..on.clone() };
+                let supply = Supply { armed, mode, fena, cv_seen, ..on.clone() };
                 self.event(supply, Event::Sample { volts, amperes });
             }
         }
@@ -337,8 +401,8 @@ impl Table {
             Supply { lines, ..on.clone() },
             with_trips(on.clone(), trips),
         ] {
-            let volts = self.draw.pick(&[0, volts]);
-            self.event(off, Event::Sample { volts, amperes });
+            let (volts, cv_seen) = (self.draw.pick(&[0, volts]), self.coin());
+            self.event(Supply { cv_seen, ..off }, Event::Sample { volts, amperes });
         }
     }
 
@@ -522,6 +586,50 @@ impl Table {
                     let before = Supply { mode, fena, feve, sena, seve, ..state };
                     self.trials.push(Trial { before, act });
                 }
+            }
+        }
+    }
+
+    /// Everything that a supply can be asked, on outputs that are on and off for each reason, with
+    /// the CV memory and without it.
+    fn memories(&mut self) {
+        for state in regulated() {
+            for cv_seen in [false, true] {
+                let state = Supply { cv_seen, ..state.clone() };
+                self.lines_on(&state);
+                self.local_events_on(&state);
+                self.samples_on(&state);
+            }
+        }
+    }
+
+    fn lines_on(&mut self, state: &Supply) {
+        for act in every_line() {
+            let Supply { mode, fena, sena, armed, .. } = self.any();
+            let armed = armed || state.armed;
+            let before = Supply { mode, fena, sena, armed, ..state.clone() };
+            self.trials.push(Trial { before, act });
+        }
+    }
+
+    /// In the MODE in which keys and the knob act.
+    fn local_events_on(&mut self, state: &Supply) {
+        for act in every_event_but_samples() {
+            let armed = state.armed || self.coin();
+            let mode = match act {
+                Act::Event(Event::Key(Key::Local)) => Mode::Remote,
+                _ => Mode::Local,
+            };
+            self.trials.push(Trial { before: Supply { mode, armed, ..state.clone() }, act });
+        }
+    }
+
+    /// With foldback armed and, where no FOLD trip is set, unarmed.
+    fn samples_on(&mut self, state: &Supply) {
+        for act in samples_around_pc() {
+            for armed in [state.fold_trip, true] {
+                let mode = self.draw.pick(&MODES);
+                self.trials.push(Trial { before: Supply { mode, armed, ..state.clone() }, act });
             }
         }
     }

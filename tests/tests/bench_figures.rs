@@ -120,17 +120,73 @@ fn examples_of_rounding() {
 #[test]
 fn rst_and_disarming_leave_the_output_off() {
     for way_out in ["RST", "FLD 0"] {
-        let mut supply = expect(0, &[("FLD 1", "OK"), ("OUT 1", "OK")]);
-        sample(&mut supply, 0, 0);
+        let mut supply = expect(0, &[("PC 10", "OK"), ("FLD 1", "OK"), ("OUT 1", "OK")]);
+        sample(&mut supply, 0, 4_999);
+        sample(&mut supply, 0, 5_000);
         assert!(supply.fold_trip && !supply.output_on());
         assert_eq!(say(&mut supply, way_out), "OK");
         assert!(!supply.fold_trip && !supply.output_on());
     }
     let mut supply = Supply::fresh(0);
+    supply.event(Event::Knob(Target::Pc, 10_000));
     for key in [Key::Output, Key::Fold] {
         supply.event(Event::Key(key));
     }
-    sample(&mut supply, 0, 0);
+    sample(&mut supply, 0, 4_999);
+    sample(&mut supply, 0, 5_000);
+    assert!(supply.fold_trip && !supply.output_on());
     supply.event(Event::Key(Key::Fold));
     assert!(!supply.fold_trip && !supply.output_on());
+}
+
+/// The charging cell of the papers, on every model: PC is the rating, which is count 50,000.
+#[test]
+fn foldback_lets_a_cell_charge() {
+    for model in 0..12 {
+        let mut supply = Supply::fresh(model);
+        supply.pc = supply.limits().rated_amperes;
+        assert_eq!(say(&mut supply, "FLD 1"), "OK");
+        assert_eq!(say(&mut supply, "OUT 1"), "OK");
+        for (amperes, cv_seen, fold_trip) in [
+            (u16::MAX, false, false),
+            (50_000, false, false),
+            (49_999, true, false),
+            (0, true, false),
+            (50_000, false, true),
+            (0, false, true),
+        ] {
+            sample(&mut supply, 0, amperes);
+            assert_eq!((supply.cv_seen, supply.fold_trip), (cv_seen, fold_trip), "{supply:?}");
+        }
+        assert_eq!(say(&mut supply, "OUT 1"), "OK");
+        sample(&mut supply, 0, 50_000);
+        assert!(!supply.cv_seen && supply.output_on(), "{supply:?}");
+    }
+}
+
+/// A memory with the output off, which no supply has by itself: an event that ends with the output
+/// off forgets it, a query and the empty line too, and a refused order leaves it.
+#[test]
+fn what_ends_off_forgets_and_a_refusal_changes_nothing() {
+    let forged = Supply { cv_seen: true, ..Supply::fresh(0) };
+    for line in ["OUT 0", "FLD 1", "PV 5", "CLS", "FLT?", "MODE?", "STT?", ""] {
+        let mut supply = forged.clone();
+        say(&mut supply, line);
+        assert!(!supply.cv_seen, "{line}");
+    }
+    for event in [
+        Event::Lines(0),
+        Event::Key(Key::Local),
+        Event::Knob(Target::Pc, 1),
+        Event::Sample { volts: 0, amperes: 0 },
+    ] {
+        let mut supply = forged.clone();
+        supply.event(event);
+        assert!(!supply.cv_seen, "{event:?}");
+    }
+    for line in ["PV 7", "PC x", "OUT", "WHAT"] {
+        let mut supply = forged.clone();
+        say(&mut supply, line);
+        assert_eq!(supply, forged, "{line}");
+    }
 }

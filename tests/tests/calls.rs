@@ -32,6 +32,7 @@ const NO_SUPPLY: Supply = Supply {
     feve: 0,
     sena: 0,
     seve: 0,
+    cv_seen: 0,
     volt_count: 0,
     amp_count: 0,
 };
@@ -61,6 +62,7 @@ fn supply_of(plain: &Plain) -> Supply {
         feve: plain.feve,
         sena: plain.sena,
         seve: plain.seve,
+        cv_seen: plain.cv_seen.into(),
         volt_count: plain.volt_count,
         amp_count: plain.ampere_count,
     }
@@ -84,6 +86,7 @@ fn plain_of(model: u8, supply: &Supply) -> Plain {
         feve: supply.feve,
         sena: supply.sena,
         seve: supply.seve,
+        cv_seen: supply.cv_seen == 1,
         volt_count: supply.volt_count,
         ampere_count: supply.amp_count,
     }
@@ -178,6 +181,22 @@ impl Moment<'_> {
         }
     }
 
+    /// Whether it is an accepted field with this tag.
+    fn brings(&self, tag: u8) -> bool {
+        self.accepted() && self.bytes[0] == tag
+    }
+
+    /// Changes the supply that a sample went to, if this holds of it before and after.
+    fn sampled(&mut self, holds: impl Fn(&Plain, &Plain) -> bool, change: fn(&mut Supply)) {
+        if self.brings(5) && known(&self.before) {
+            let slot = usize::from(self.bytes[3]);
+            let plain = |rack: &Rack| plain_of(rack.models[slot], &rack.slots[slot]);
+            if holds(&plain(&self.before), &plain(self.rack)) {
+                change(&mut self.rack.slots[slot]);
+            }
+        }
+    }
+
     /// The call with each serial byte as a field of its own: what is told is told line by line.
     fn byte_by_byte(&mut self) {
         if self.accepted() && self.bytes[0] == 1 && known(&self.before) {
@@ -235,6 +254,25 @@ impl Moment<'_> {
             self.reads(rule);
         }
     }
+}
+
+// What a wrong controller does to the CV memory.
+
+fn keep(supply: &mut Supply, was: &Supply) {
+    supply.cv_seen |= was.cv_seen;
+}
+
+fn forget(supply: &mut Supply, _: &Supply) {
+    supply.cv_seen = 0;
+}
+
+fn remember(supply: &mut Supply) {
+    supply.cv_seen = 1;
+}
+
+/// Whether a sample's amperes are below PC.
+fn low(supply: &Plain) -> bool {
+    supply.ampere_reading() < supply.pc
 }
 
 /// Whether a reply is an error code.
@@ -502,6 +540,75 @@ const CALLS: &[(&str, WrongCall)] = &[
     ("the count of kept characters should be 65 and is 64",
         |it| if it.done.code > 0 && it.before.line.count == 65 { it.rack.line.count = 64 }),
     ("the model of slot 30 should be", |it| if it.done.code == 2 { it.rack.models[30] = EMPTY }),
+    ("slot 6 CV memory should be", |it| if it.done.code == 7 { it.rack.slots[6].cv_seen ^= 1 }),
+    ("CV memory should be 1 and is 255",
+        |it| it.rack.slots.iter_mut().filter(|it| it.cv_seen == 1).for_each(|it| it.cv_seen = 255)),
+];
+
+/// What foldback must remember, forgotten or remembered at the wrong time.
+#[rustfmt::skip]
+const FOLDBACK: &[(&str, WrongCall)] = &[
+    // kept though the output goes off, by each event that turns it off
+    ("CV memory should be 0 and is 1", |it| if it.brings(4) { it.supplies(keep) }),
+    ("CV memory should be 0 and is 1",
+        |it| if it.brings(4) { it.supplies(|it, was| if it.ast == 1 { keep(it, was) }) }),
+    ("CV memory should be 0 and is 1",
+        |it| if it.brings(4) { it.supplies(|it, was| if it.ast == 0 { keep(it, was) }) }),
+    ("CV memory should be 0 and is 1", |it| if it.hears(b"OUT 0\r") { it.supplies(keep) }),
+    ("CV memory should be 0 and is 1", |it| if it.hears(b"GOUT 0\r") { it.supplies(keep) }),
+    ("CV memory should be 0 and is 1", |it| if it.brings(2) { it.supplies(keep) }),
+    ("CV memory should be 0 and is 1",
+        |it| it.supplies(|it, was| if it.ovp_trip > was.ovp_trip { keep(it, was) })),
+    ("CV memory should be 0 and is 1",
+        |it| it.supplies(|it, was| if it.fold_trip > was.fold_trip { keep(it, was) })),
+    ("CV memory should be 0 and is 1", |it| if it.hears(b"RST\r") { it.supplies(keep) }),
+    ("CV memory should be 0 and is 1", |it| if it.hears(b"GRST\r") { it.supplies(keep) }),
+    // set by samples that are not judged CV: while off, at PC, above it, with OVP, by the counts before
+    ("CV memory should be 0 and is 1", |it| it.sampled(|was, _| !was.output_on(), remember)),
+    ("CV memory should be 0 and is 1", |it| it.sampled(|was, is| !was.output_on() && low(is), remember)),
+    ("CV memory should be 0 and is 1",
+        |it| it.sampled(|_, is| is.output_on() && is.ampere_reading() == is.pc, remember)),
+    ("CV memory should be 0 and is 1",
+        |it| it.sampled(|_, is| is.output_on() && is.ampere_reading() > is.pc, remember)),
+    ("CV memory should be 0 and is 1",
+        |it| it.sampled(|was, is| is.ovp_trip && !was.ovp_trip && low(is), remember)),
+    ("CV memory should be 0 and is 1", |it| it.sampled(|was, is| is.output_on() && low(was), remember)),
+    // set by the output coming on, by arming, by MODE? and by a PC above the reading
+    ("CV memory should be 0 and is 1",
+        |it| it.supplies(|it, was| if it.want > was.want && it.lines == 0 { remember(it) })),
+    ("CV memory should be 0 and is 1",
+        |it| it.supplies(|it, was| if it.armed > was.armed && it.want == 1 { remember(it) })),
+    ("CV memory should be 0 and is 1",
+        |it| it.supplies(|it, was| if it.pc > was.pc && it.want == 1 { remember(it) })),
+    // not set: never, only while armed, only in remote mode
+    ("CV memory should be 1 and is 0", |it| it.supplies(forget)),
+    ("CV memory should be 1 and is 0",
+        |it| it.supplies(|it, was| if it.armed == 0 { it.cv_seen &= was.cv_seen })),
+    ("CV memory should be 1 and is 0",
+        |it| it.supplies(|it, was| if it.mode == 0 { it.cv_seen &= was.cv_seen })),
+    ("CV memory should be 1 and is 0",
+        |it| it.supplies(|it, was| if it.mode == 2 { it.cv_seen &= was.cv_seen })),
+    // lost though the output stays on
+    ("CV memory should be 1 and is 0", |it| if it.hears(b"OUT 1\r") { it.supplies(forget) }),
+    ("CV memory should be 1 and is 0", |it| if it.hears(b"GOUT 1\r") { it.supplies(forget) }),
+    ("CV memory should be 1 and is 0", |it| if it.hears(b"FLD 0\r") { it.supplies(forget) }),
+    ("CV memory should be 1 and is 0", |it| if it.hears(b"FLD 1\r") { it.supplies(forget) }),
+    ("CV memory should be 1 and is 0", |it| if it.hears(b"PC ") { it.supplies(forget) }),
+    ("CV memory should be 1 and is 0",
+        |it| it.supplies(|it, was| if it.pc < was.pc { forget(it, was) })),
+    ("CV memory should be 1 and is 0", |it| if it.hears(b"?\r") { it.supplies(forget) }),
+    ("CV memory should be 1 and is 0", |it| if it.hears(b"RMT ") { it.supplies(forget) }),
+    ("CV memory should be 1 and is 0", |it| if it.brings(2) { it.supplies(forget) }),
+    ("CV memory should be 1 and is 0", |it| if it.brings(3) { it.supplies(forget) }),
+    ("CV memory should be 1 and is 0", |it| if it.brings(4) { it.supplies(forget) }),
+    ("CV memory should be 1 and is 0", |it| if refusal(&it.said().0) { it.supplies(forget) }),
+    ("CV memory should be 1 and is 0", |it| it.sampled(|_, is| !low(is), |it| it.cv_seen = 0)),
+    // trips without the memory, and not with it
+    ("FOLD trip should be 0 and is 1", |it| it.sampled(
+        |was, is| was.output_on() && is.output_on() && is.armed && !low(is) && !was.cv_seen,
+        |it| it.fold_trip = 1,
+    )),
+    ("FOLD trip should be 1 and is 0", |it| it.sampled(|was, _| was.cv_seen, |it| it.fold_trip = 0)),
 ];
 
 /// Numbers with digits below a tick or mA, read or checked in another way than the papers say.
@@ -532,21 +639,41 @@ const ROUNDING: &[(&str, WrongCall)] = &[
 #[test]
 fn a_wrong_call_is_told_whatever_is_wrong_with_it() {
     let checks = checks(20).expect("the cases are readable");
-    for (said, call) in CALLS.iter().chain(ROUNDING) {
+    for (said, call) in CALLS.iter().chain(ROUNDING).chain(FOLDBACK) {
         tells(&checks, &Wrong { call: *call, ..RIGHT }, said);
     }
 }
 
-/// The generated lists by themselves tell as much of rounding.
-#[test]
-fn wrong_rounding_is_told_by_generated_lists() {
+/// The generated lists by themselves tell each of these.
+fn generated_lists_tell(wrong: &[(&str, WrongCall)]) {
     let checks = checks(400).expect("the cases are readable");
     let generated = |check: &&Check| check.name.ends_with("generated lists");
     let generated = checks.iter().find(generated).expect("a check of generated lists");
-    for (number, (_, call)) in ROUNDING.iter().enumerate() {
+    for (number, (_, call)) in wrong.iter().enumerate() {
         let wrong = Wrong { call: *call, ..RIGHT };
         let told = (generated.judge)(&wrong, &mut Tally::default());
-        assert!(told.is_err(), "wrong rounding {number} is not told");
+        assert!(told.is_err(), "wrong controller {number} is not told");
+    }
+}
+
+#[test]
+fn wrong_rounding_is_told_by_generated_lists() {
+    generated_lists_tell(ROUNDING);
+}
+
+#[test]
+fn wrong_foldback_is_told_by_generated_lists() {
+    generated_lists_tell(FOLDBACK);
+}
+
+/// The cases by themselves tell as much of foldback.
+#[test]
+fn wrong_foldback_is_told_by_the_cases() {
+    let checks = checks(0).expect("the cases are readable");
+    let cases: Vec<Check> =
+        checks.into_iter().filter(|check| check.name.starts_with("foldback-")).collect();
+    for (said, call) in FOLDBACK {
+        tells(&cases, &Wrong { call: *call, ..RIGHT }, said);
     }
 }
 
@@ -575,6 +702,8 @@ const FITS: &[(&str, WrongFit)] = &[
         |list, fitted| if fitted.code == 0 && list[8] == 2 { fitted.rack.slots[8].sena = 0x8F }),
     ("slot 8 SEVE should be",
         |list, fitted| if fitted.code == 0 && list[9] == 2 { fitted.rack.slots[8].seve = 1 }),
+    ("slot 8 CV memory should be",
+        |list, fitted| if fitted.code == 0 && list[9] == 3 { fitted.rack.slots[8].cv_seen = 1 }),
     ("slot 2 FENA should be",
         |list, fitted| if fitted.code == 0 && list[1] == 7 { fitted.rack.slots[2].fena = 1 }),
     ("the model of slot 0 should be 10 and is 9",
@@ -671,7 +800,7 @@ fn each_field_of_a_rack_has_its_place() {
         )* };
     }
     each!(pv pc ovp uvl want armed ast mode lines fold_trip ovp_trip);
-    each!(fena feve sena seve volt_count amp_count);
+    each!(fena feve sena seve cv_seen volt_count amp_count);
     for slot in 0..SLOTS {
         rack.models[slot] = 0;
         moved(&rack);

@@ -1,6 +1,7 @@
 //! Generated lists: the rack against the plain supply on each share, and orders against the knob.
 
 use rack_tests::compare::{self, Service};
+use rack_tests::foldback::Foldback;
 use rack_tests::generate::{generate, Draw, Input};
 use rack_tests::program;
 use rack_tests::rack::SLOTS;
@@ -47,6 +48,59 @@ fn generated_inputs_reach_every_reply_and_refusal() {
     for reply in wanted {
         let times = counts.iter().find(|(name, _)| name == reply).map_or(0, |(_, times)| *times);
         assert!(times >= 5, "{reply} came {times} times");
+    }
+}
+
+/// Cells that charge, with each way to lose the CV memory and much that leaves it.
+#[test]
+fn generated_inputs_pass_through_all_of_foldback() {
+    let foldback = compare::foldback_counts(2_000, 7);
+    let Foldback { charging, remembered, trips, .. } = foldback;
+    assert!(charging > 1_000 && remembered.iter().all(|times| *times > 500), "{foldback:?}");
+    assert!(trips > 500, "{foldback:?}");
+    let Foldback { trips_after_charging, trips_armed_later, .. } = foldback;
+    assert!(trips_after_charging > 100 && trips_armed_later > 50, "{foldback:?}");
+    assert!(foldback.while_off > 500 && foldback.over_voltage > 100, "{foldback:?}");
+    let ways = [
+        "OUT 0",
+        "GOUT 0",
+        "RST",
+        "GRST",
+        "OUTPUT key",
+        "LINES",
+        "LINES under AST",
+        "OVP trip",
+        "FOLD trip",
+    ];
+    for way in ways {
+        for times in [&foldback.forgotten, &foldback.charging_again] {
+            assert!(times.get(way).is_some_and(|times| *times >= 20), "{way}: {foldback:?}");
+        }
+    }
+    assert_eq!(foldback.forgotten.len(), ways.len(), "{foldback:?}");
+    for doing in [
+        "OUT 1",
+        "GOUT 1",
+        "FLD 0",
+        "FLD 1",
+        "FOLD key",
+        "LOCAL key",
+        "OUTPUT key",
+        "PV",
+        "PC",
+        "GPC",
+        "PC knob",
+        "another knob",
+        "RMT",
+        "another order",
+        "query",
+        "empty line",
+        "refused line",
+        "LINES as before",
+        "sample",
+    ] {
+        let times = foldback.kept.get(doing);
+        assert!(times.is_some_and(|times| *times >= 20), "{doing}: {foldback:?}");
     }
 }
 

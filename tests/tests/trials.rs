@@ -43,6 +43,83 @@ fn every_trial_keeps_limits_and_margins() {
     }
 }
 
+/// The CV memory and the FOLD trip after each act, worked out a second time from what MODE? says
+/// before and after it.
+#[test]
+fn foldback_remembers_what_mode_tells() {
+    let says = |supply: &Supply| supply.clone().ask(Query::Mode).to_string();
+    for trial in trials::all() {
+        let Expected { code, after, .. } = trial.expected();
+        let before = &trial.before;
+        if code.is_some() {
+            assert_eq!(&after, before, "{trial:?}");
+            continue;
+        }
+        let counted = matches!(trial.act, Act::Event(Event::Sample { .. })) && before.output_on();
+        let remembered = match says(&after).as_str() {
+            "OFF" => false,
+            "CV" if counted => true,
+            _ => before.cv_seen,
+        };
+        assert_eq!(after.cv_seen, remembered, "{trial:?}");
+        let limited = counted && !after.ovp_trip && after.ampere_reading() >= after.pc;
+        let tripped = after.fold_trip && !before.fold_trip;
+        assert_eq!(tripped, limited && before.armed && before.cv_seen, "{trial:?}");
+    }
+}
+
+/// Each kind of act meets the memory set and not, with the output on and off.
+#[test]
+fn every_kind_of_act_is_tried_with_and_without_the_memory() {
+    let met = |trial: &Trial| (kind(trial.act), trial.before.output_on(), trial.before.cv_seen);
+    let met: HashSet<_> = trials::all().iter().map(met).collect();
+    let kinds: HashSet<&String> = met.iter().map(|(kind, ..)| kind).collect();
+    for kind in &kinds {
+        for (on, cv_seen) in [(false, false), (false, true), (true, false), (true, true)] {
+            let wanted = (kind.to_string(), on, cv_seen);
+            assert!(met.contains(&wanted), "{wanted:?} is not tried");
+        }
+    }
+}
+
+/// Samples one mA below PC, at it and above it, below OVP and not, with everything that they ask.
+#[test]
+fn samples_meet_every_side_of_pc_and_ovp() {
+    let mut met = HashSet::new();
+    for trial in trials::all() {
+        let Act::Event(Event::Sample { .. }) = trial.act else { continue };
+        let (before, after) = (&trial.before, trial.expected().after);
+        let side = (after.ampere_reading() - after.pc).clamp(-2, 1);
+        let over = after.volt_reading() >= after.ovp;
+        met.insert((side, over, before.output_on(), before.armed, before.cv_seen));
+    }
+    assert_eq!(met.len(), 4 * 2 * 2 * 2 * 2, "{met:?}");
+}
+
+/// Every event that ends with the output off is tried on a supply that has the memory.
+#[test]
+fn every_way_off_meets_the_memory() {
+    let mut ways = HashSet::new();
+    for trial in trials::all().iter().filter(|trial| trial.before.cv_seen) {
+        let (before, after) = (&trial.before, trial.expected().after);
+        if before.output_on() && !after.output_on() {
+            let trip = (after.fold_trip, after.ovp_trip);
+            ways.insert(format!("{} {trip:?} {}", kind(trial.act), before.ast));
+        }
+    }
+    for way in [
+        "lines (false, false) false",
+        "lines (false, false) true",
+        "Event(Key(Output)) (false, false) false",
+        "sample (true, false) false",
+        "sample (false, true) false",
+        "Order(Out(false)) (false, false) false",
+        "Order(Rst) (false, false) false",
+    ] {
+        assert!(ways.contains(way), "{way} is not tried: {ways:?}");
+    }
+}
+
 /// What kind of act this is, with any operand that has few values.
 fn kind(act: Act) -> String {
     match act {

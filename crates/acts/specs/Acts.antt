@@ -11,6 +11,7 @@ use Rattle.supply.specs.declared.Query.the-variants as query
 use Rattle.supply.specs.declared.Act.{Act}
 use Rattle.supply.specs.declared.Act.the-variants.{Lines, Sample, Press, Turn, Obey, Ask, Nothing}
 use Rattle.supply.specs.With.{withFeve, withSeve}
+use Rattle.supply.specs.Memory.{cvForgotten}
 use Rattle.supply.specs.Registers.{settled}
 use Rattle.samples.specs.Samples.{sampled}
 use Rattle.events.specs.Events.{linesChanged, pressed, turned}
@@ -75,7 +76,8 @@ acted m s (Obey o) = ordered m s o
 acted m s (Ask q) = afterQuery q s
 acted m s Nothing = s
 
--- third stage, after `settled`: CLS and RST close with both registers 0
+-- third stage, after `settled`: CLS and RST close with both registers 0, and whichever act it is, a supply whose output
+-- is off then forgets that a sample was judged CV
 unfoldable pub clearingAct : Act → Bool
 clearingAct (Obey o) = clearingOrder o
 clearingAct (Lines b) = false
@@ -86,7 +88,7 @@ clearingAct (Ask q) = false
 clearingAct Nothing = false
 
 abbrev pub closed : Act → Supply → Supply
-closed a s = cleared (clearingAct a) s
+closed a s = cvForgotten (cleared (clearingAct a) s)
 
 -- AN EVENT, as the paper calls it, and what it leaves: an act that is not refused, in its three stages.
 -- A refused act is no event and changes nothing.

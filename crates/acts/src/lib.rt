@@ -1,6 +1,8 @@
 // Layer supply.
-// The acts of a supply, in three stages: what the act does, what FEVE and SEVE gain, and how the act closes.
+// The acts of a supply, in three stages: what the act does, what FEVE and SEVE gain, and how the act closes. Every act
+// that is not refused closes with `forget_cv`.
 ghost use mathlib.Core.Path.{_≡_};
+ghost use Rattle.supply.specs.Memory.{cvForgotten};
 ghost use Rattle.supply.specs.Registers.{settled};
 ghost use Rattle.codes.specs.Codes.{orderCode};
 ghost use Rattle.acts.specs.Acts.{codeOf, afterQuery, clearingOrder, cleared, performed};
@@ -53,13 +55,14 @@ fn order_clears(o: Order) -> bool
     }
 }
 
-// The second stage of an act that no supply refuses; its third stage changes nothing.
+// The later stages of an act that no supply refuses and that clears no register.
 fn accept(model: u8, before: Supply, after: Supply) -> Outcome
-    ensures { λ r. ⌜ (r .code ≡ 0) × (r .supply ≡ settled model before after) ⌝ }
+    ensures { λ r. ⌜ (r .code ≡ 0) × (r .supply ≡ cvForgotten (settled model before after)) ⌝ }
 {
+    let settled = supply::settle(model, before, after);
     Outcome {
         code: 0,
-        supply: supply::settle(model, before, after),
+        supply: supply::forget_cv(settled),
     }
 }
 
@@ -69,12 +72,20 @@ pub fn obey_set(model: u8, s: Supply, t: Target, n: u64) -> Outcome
         × (r .supply ≡ performed model s (Act.Obey (Order.Set t n))) ⌝ }
 {
     let done = orders::set_done(model, s, t, n);
-    if s.sena == 0 {
+    if done.code != 0 {
         return done;
     }
-    let code = done.code;
-    let supply = supply::gain_seve(model, s, done.supply);
-    Outcome { code, supply }
+    if s.sena == 0 {
+        return Outcome {
+            code: 0,
+            supply: supply::forget_cv(done.supply),
+        };
+    }
+    let gained = supply::gain_seve(model, s, done.supply);
+    Outcome {
+        code: 0,
+        supply: supply::forget_cv(gained),
+    }
 }
 
 // An order: its error code, and the supply after it. CLS and RST close with both registers 0.
@@ -85,10 +96,17 @@ pub fn obey_order(model: u8, s: Supply, o: Order) -> Outcome
         return obey_set(model, s, t, n);
     }
     let done = orders::order_done(model, s, o);
+    if done.code != 0 {
+        return Outcome {
+            code: done.code,
+            supply: s,
+        };
+    }
     let settled = supply::settle(model, s, done.supply);
+    let cleared = clear_registers(settled, order_clears(o));
     Outcome {
-        code: done.code,
-        supply: clear_registers(settled, order_clears(o)),
+        code: 0,
+        supply: supply::forget_cv(cleared),
     }
 }
 
@@ -96,7 +114,8 @@ pub fn obey_order(model: u8, s: Supply, o: Order) -> Outcome
 fn sample_settled(model: u8, s: Supply, v: u16, a: u16) -> Supply
     ensures { λ r. ⌜ r ≡ performed model s (Act.Sample v a) ⌝ }
 {
-    supply::settle(model, s, samples::sampled_at(model, s, v, a))
+    let settled = supply::settle(model, s, samples::sampled_at(model, s, v, a));
+    supply::forget_cv(settled)
 }
 
 // The same. Most fields are samples; with SENA 0 only FEVE can gain, and nothing is passed to a function for SEVE.
@@ -104,7 +123,8 @@ pub fn sampled(model: u8, s: Supply, v: u16, a: u16) -> Supply
     ensures { λ r. ⌜ r ≡ performed model s (Act.Sample v a) ⌝ }
 {
     if s.sena == 0 {
-        return supply::gain_feve(s, samples::sampled_at(model, s, v, a));
+        let gained = supply::gain_feve(s, samples::sampled_at(model, s, v, a));
+        return supply::forget_cv(gained);
     }
     sample_settled(model, s, v, a)
 }
@@ -115,9 +135,9 @@ pub fn asked(model: u8, s: Supply, q: Query) -> Supply
 {
     let after = after_query(s, q);
     if s.sena == 0 {
-        return after;
+        return supply::forget_cv(after);
     }
-    supply::gain_seve(model, s, after)
+    supply::forget_cv(supply::gain_seve(model, s, after))
 }
 
 // An act: its error code, and the supply after it. Only an order can be refused.

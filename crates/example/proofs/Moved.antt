@@ -13,6 +13,7 @@ use Rattle.hex.specs.Hex.{isHex, hexOf, readHex}
 use Rattle.supply.specs.State.{fresh}
 use Rattle.supply.specs.Flt.{fltOf, onOf, linesClear, inLimit}
 use Rattle.supply.specs.Stat.{statOf}
+use Rattle.supply.specs.Memory.{cvForgotten}
 use Rattle.supply.specs.Registers.{feveGained, seveGained, settled}
 use Rattle.settings.specs.Settings.{settingOf, withSetting, leastOf, mostOf, signedOf, nearestIn, stepped}
 use Rattle.samples.specs.Samples.{sampled}
@@ -36,13 +37,15 @@ use Rattle.fitting.specs.Fitting.{allAllowed}
 use Rattle.isolation.proofs.Isolation.{isolated-code}
 use Rattle.isolation.proofs.Existence.{some-run}
 use Rattle.example.specs.Worked.{fittingList}
-use Rattle.example.specs.Moved.{here, listThere, there, foldedBack, MovedRun}
+use Rattle.example.specs.Moved.{here, listThere, there, chargingAgain, MovedRun}
 
 -- the share, at any address
 shareAt : ℕ → List Entry
 shareAt a =
     field 3 (a ∷ 0 ∷ 0 ∷ 0 ∷ 195 ∷ 80 ∷ []) ∷ field 3 (a ∷ 1 ∷ 0 ∷ 0 ∷ 39 ∷ 16 ∷ []) ∷ field 2 (a ∷ 1 ∷ []) ∷
-    field 2 (a ∷ 0 ∷ []) ∷ field 5 (a ∷ 156 ∷ 64 ∷ 19 ∷ 136 ∷ []) ∷ line (codes "FLT?") false ∷ []
+    field 2 (a ∷ 0 ∷ []) ∷ field 5 (a ∷ 78 ∷ 32 ∷ 19 ∷ 136 ∷ []) ∷ field 5 (a ∷ 156 ∷ 64 ∷ 19 ∷ 135 ∷ []) ∷
+    field 5 (a ∷ 156 ∷ 64 ∷ 19 ∷ 136 ∷ []) ∷ field 2 (a ∷ 0 ∷ []) ∷ field 5 (a ∷ 78 ∷ 32 ∷ 19 ∷ 136 ∷ []) ∷
+    line (codes "FLT?") false ∷ []
 
 share-here : shareOf grammar (setupOf fittingList) here 6 ≡ shareAt 6
 unfolding shareAt fittingList here brought share.typed parse readField headerCode lengthFits valuesFit classOf heardOf asksOf rightChecksum askedBy parameterOf readAs findWord readNumber scaledValue wholeUnits wellFormed firstAt runValue allDigits readHex hexOf isHex
@@ -56,8 +59,8 @@ addresses-only : map unaddressed (shareAt 6) ≡ map unaddressed (shareAt 9)
 unfolding shareAt
 addresses-only = refl
 
-end-here : plain plainSupply 0 (shareAt 6) ≡ foldedBack
-unfolding shareAt foldedBack stepOf actOf pressOf turnOf heardOf asksOf rightChecksum askedBy parameterOf readAs findWord obeyed performed acted afterQuery clearingOrder clearingAct codeOf sampled turnedOn disarmed pressed turned stepped nearestIn signedOf leastOf mostOf withSetting settingOf settled feveGained seveGained statOf onOf linesClear inLimit fltOf fresh voltReading ampReading limitsOf table firstAt
+end-here : plain plainSupply 0 (shareAt 6) ≡ chargingAgain
+unfolding shareAt chargingAgain stepOf actOf pressOf turnOf heardOf asksOf rightChecksum askedBy parameterOf readAs findWord obeyed performed acted afterQuery clearingOrder clearingAct codeOf sampled turnedOn disarmed pressed turned stepped nearestIn signedOf leastOf mostOf withSetting settingOf settled cvForgotten feveGained seveGained statOf onOf linesClear inLimit fltOf fresh voltReading ampReading limitsOf table firstAt
 end-here = refl
 
 -- the address in the first entry of a share

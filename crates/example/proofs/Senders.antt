@@ -9,6 +9,7 @@ use Rattle.prints.specs.Figure.{fixed, shortest, decimals, figure}
 use Rattle.supply.specs.State.{fresh}
 use Rattle.supply.specs.Flt.{fltOf, onOf, linesClear, inLimit}
 use Rattle.supply.specs.Stat.{statOf}
+use Rattle.supply.specs.Memory.{cvForgotten}
 use Rattle.supply.specs.Registers.{feveGained, seveGained, settled}
 use Rattle.settings.specs.Settings.{settingOf, withSetting, leastOf, mostOf, signedOf, nearestIn, stepped}
 use Rattle.samples.specs.Samples.{sampled}
@@ -36,5 +37,5 @@ use Rattle.plain.specs.Plain.{plainSupply, grammar, trips, stepOf, replyTo, cla
 use Rattle.example.specs.Senders.{listOfTwo, turnedOff, TwoSend}
 
 pub two-send : TwoSend
-unfolding listOfTwo turnedOff callOf byteOn charOn parse readField headerCode lengthFits valuesFit classOf heardOf asksOf rightChecksum askedBy parameterOf readAs findWord readNumber scaledValue wholeUnits wellFormed firstAt runValue allDigits readHex hexOf isHex stepOf replyTo obeyed repliedTo saidOf codeText wordText answerText statusText ending answerOf modeWord pressOf actOf performed acted afterQuery clearingOrder clearingAct codeOf ordered reset outDone fldDone remote remoteBy orderCode setCode sampled linesChanged anyRises falls bitAt pressed disarmed turnedOn turned stepped nearestIn signedOf leastOf mostOf withSetting settingOf settled feveGained seveGained statOf onOf linesClear inLimit fltOf fresh figure decimals shortest fixed checksum total hexPair voltReading ampReading limitsOf table
+unfolding listOfTwo turnedOff callOf byteOn charOn parse readField headerCode lengthFits valuesFit classOf heardOf asksOf rightChecksum askedBy parameterOf readAs findWord readNumber scaledValue wholeUnits wellFormed firstAt runValue allDigits readHex hexOf isHex stepOf replyTo obeyed repliedTo saidOf codeText wordText answerText statusText ending answerOf modeWord pressOf actOf performed acted afterQuery clearingOrder clearingAct codeOf ordered reset outDone fldDone remote remoteBy orderCode setCode sampled linesChanged anyRises falls bitAt pressed disarmed turnedOn turned stepped nearestIn signedOf leastOf mostOf withSetting settingOf settled cvForgotten feveGained seveGained statOf onOf linesClear inLimit fltOf fresh figure decimals shortest fixed checksum total hexPair voltReading ampReading limitsOf table
 two-send = refl

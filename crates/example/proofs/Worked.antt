@@ -11,6 +11,7 @@ use Rattle.prints.specs.Figure.{fixed, shortest, decimals, figure}
 use Rattle.supply.specs.State.{fresh}
 use Rattle.supply.specs.Flt.{fltOf, onOf, linesClear, inLimit}
 use Rattle.supply.specs.Stat.{statOf}
+use Rattle.supply.specs.Memory.{cvForgotten}
 use Rattle.supply.specs.Registers.{feveGained, seveGained, settled}
 use Rattle.settings.specs.Settings.{settingOf, withSetting, leastOf, mostOf, signedOf, nearestIn, stepped}
 use Rattle.samples.specs.Samples.{sampled}
@@ -56,11 +57,11 @@ unfolding listAlone alone shareTripping shareTripped shareReleased brought share
 share-alone = refl
 
 replies : answers (freshRack plainSupply (setupOf fittingList)) calls ≡ workedAnswers
-unfolding fittingList calls tripping tripped released workedAnswers callOf byteOn charOn parse readField headerCode lengthFits valuesFit classOf heardOf asksOf rightChecksum askedBy parameterOf readAs findWord readNumber scaledValue wholeUnits wellFormed firstAt runValue allDigits readHex hexOf isHex stepOf replyTo obeyed repliedTo saidOf codeText wordText answerText ending answerOf modeWord pressOf actOf performed acted afterQuery clearingOrder clearingAct codeOf ordered reset outDone fldDone remote remoteBy orderCode setCode sampled linesChanged anyRises falls bitAt pressed disarmed turnedOn turned stepped nearestIn signedOf leastOf mostOf withSetting settingOf settled feveGained seveGained statOf onOf linesClear inLimit fltOf fresh figure decimals shortest fixed checksum total hexPair voltReading ampReading limitsOf table
+unfolding fittingList calls tripping tripped released workedAnswers callOf byteOn charOn parse readField headerCode lengthFits valuesFit classOf heardOf asksOf rightChecksum askedBy parameterOf readAs findWord readNumber scaledValue wholeUnits wellFormed firstAt runValue allDigits readHex hexOf isHex stepOf replyTo obeyed repliedTo saidOf codeText wordText answerText ending answerOf modeWord pressOf actOf performed acted afterQuery clearingOrder clearingAct codeOf ordered reset outDone fldDone remote remoteBy orderCode setCode sampled linesChanged anyRises falls bitAt pressed disarmed turnedOn turned stepped nearestIn signedOf leastOf mostOf withSetting settingOf settled cvForgotten feveGained seveGained statOf onOf linesClear inLimit fltOf fresh figure decimals shortest fixed checksum total hexPair voltReading ampReading limitsOf table
 replies = refl
 
 end-6 : plain plainSupply 0 (shareTripping ++ shareTripped ++ shareReleased) ≡ endState
-unfolding shareTripping shareTripped shareReleased endState classOf heardOf asksOf rightChecksum askedBy parameterOf readAs findWord readNumber scaledValue wholeUnits wellFormed firstAt runValue allDigits readHex hexOf isHex stepOf replyTo obeyed repliedTo saidOf codeText wordText answerText ending answerOf modeWord pressOf actOf performed acted afterQuery clearingOrder clearingAct codeOf ordered reset outDone fldDone remote remoteBy orderCode setCode sampled linesChanged anyRises falls bitAt pressed disarmed turnedOn turned stepped nearestIn signedOf leastOf mostOf withSetting settingOf settled feveGained seveGained statOf onOf linesClear inLimit fltOf fresh figure decimals shortest fixed checksum total hexPair voltReading ampReading limitsOf table
+unfolding shareTripping shareTripped shareReleased endState classOf heardOf asksOf rightChecksum askedBy parameterOf readAs findWord readNumber scaledValue wholeUnits wellFormed firstAt runValue allDigits readHex hexOf isHex stepOf replyTo obeyed repliedTo saidOf codeText wordText answerText ending answerOf modeWord pressOf actOf performed acted afterQuery clearingOrder clearingAct codeOf ordered reset outDone fldDone remote remoteBy orderCode setCode sampled linesChanged anyRises falls bitAt pressed disarmed turnedOn turned stepped nearestIn signedOf leastOf mostOf withSetting settingOf settled cvForgotten feveGained seveGained statOf onOf linesClear inLimit fltOf fresh figure decimals shortest fixed checksum total hexPair voltReading ampReading limitsOf table
 end-6 = refl
 
 on-6 : onOf endState ≡ true
@@ -68,7 +69,7 @@ unfolding endState onOf fltOf
 on-6 = refl
 
 tripped-6 : TrippedBy plainSupply trips 0 ovp (shareTripping ++ shareTripped)
-unfolding shareTripping shareTripped releasesOf releases classOf heardOf asksOf rightChecksum askedBy parameterOf readAs findWord readNumber scaledValue wholeUnits wellFormed firstAt runValue allDigits readHex hexOf isHex stepOf replyTo obeyed repliedTo saidOf codeText wordText answerText ending answerOf modeWord pressOf actOf performed acted afterQuery clearingOrder clearingAct codeOf ordered reset outDone fldDone remote remoteBy orderCode setCode sampled linesChanged anyRises falls bitAt pressed disarmed turnedOn turned stepped nearestIn signedOf leastOf mostOf withSetting settingOf settled feveGained seveGained statOf onOf linesClear inLimit fltOf fresh figure decimals shortest fixed checksum total hexPair voltReading ampReading limitsOf table
+unfolding shareTripping shareTripped releasesOf releases classOf heardOf asksOf rightChecksum askedBy parameterOf readAs findWord readNumber scaledValue wholeUnits wellFormed firstAt runValue allDigits readHex hexOf isHex stepOf replyTo obeyed repliedTo saidOf codeText wordText answerText ending answerOf modeWord pressOf actOf performed acted afterQuery clearingOrder clearingAct codeOf ordered reset outDone fldDone remote remoteBy orderCode setCode sampled linesChanged anyRises falls bitAt pressed disarmed turnedOn turned stepped nearestIn signedOf leastOf mostOf withSetting settingOf settled cvForgotten feveGained seveGained statOf onOf linesClear inLimit fltOf fresh figure decimals shortest fixed checksum total hexPair voltReading ampReading limitsOf table
 tripped-6 =
     record {
       before =
@@ -86,7 +87,7 @@ unfolding fittingList calls tripping tripped released shareNeighbour brought sha
 share-9 = refl
 
 end-9 : (onOf (plain plainSupply 3 shareNeighbour) ≡ true) × (plain plainSupply 3 shareNeighbour .pv ≡ 53000)
-unfolding shareNeighbour classOf heardOf asksOf rightChecksum askedBy parameterOf readAs findWord readNumber scaledValue wholeUnits wellFormed firstAt runValue allDigits readHex hexOf isHex stepOf replyTo obeyed repliedTo saidOf codeText wordText answerText ending answerOf modeWord pressOf actOf performed acted afterQuery clearingOrder clearingAct codeOf ordered reset outDone fldDone remote remoteBy orderCode setCode sampled linesChanged anyRises falls bitAt pressed disarmed turnedOn turned stepped nearestIn signedOf leastOf mostOf withSetting settingOf settled feveGained seveGained statOf onOf linesClear inLimit fltOf fresh figure decimals shortest fixed checksum total hexPair voltReading ampReading limitsOf table
+unfolding shareNeighbour classOf heardOf asksOf rightChecksum askedBy parameterOf readAs findWord readNumber scaledValue wholeUnits wellFormed firstAt runValue allDigits readHex hexOf isHex stepOf replyTo obeyed repliedTo saidOf codeText wordText answerText ending answerOf modeWord pressOf actOf performed acted afterQuery clearingOrder clearingAct codeOf ordered reset outDone fldDone remote remoteBy orderCode setCode sampled linesChanged anyRises falls bitAt pressed disarmed turnedOn turned stepped nearestIn signedOf leastOf mostOf withSetting settingOf settled cvForgotten feveGained seveGained statOf onOf linesClear inLimit fltOf fresh figure decimals shortest fixed checksum total hexPair voltReading ampReading limitsOf table
 end-9 = (refl, refl)
 
 pub worked-out : WorkedOut

@@ -17,12 +17,13 @@ use Rattle.example.specs.Worked.{fittingList, serial, sample, key}
 abbrev pub knob : ℕ → ℕ → ℕ → Call
 knob a t d = record { bytes = 3 ∷ 0 ∷ 6 ∷ a ∷ t ∷ 0 ∷ 0 ∷ d / 256 ∷ d % 256 ∷ []; room = 512 }
 
--- slot 6: PV turned to 5 V and PC to 10 A, foldback armed, the output on, a sample of 10 A; meanwhile the neighbour is
--- in use too
+-- slot 6: PV turned to 5 V and PC to 10 A, foldback armed, the output on. The cell draws 10 A while it charges, then less,
+-- then 10 A again, which trips; turned on again, it charges again. Meanwhile the neighbour is in use too.
 unfoldable pub here : List Call
 here =
     knob 6 0 50000 ∷ key 9 0 ∷ knob 6 1 10000 ∷ key 6 1 ∷ serial "ADR 9\rPV 3\r" ∷ key 6 0 ∷
-    sample 6 40000 5000 ∷ serial "ADR 6\rFLT?\r" ∷ []
+    sample 6 20000 5000 ∷ sample 6 40000 4999 ∷ sample 6 40000 5000 ∷ key 6 0 ∷ sample 6 20000 5000 ∷
+    serial "ADR 6\rFLT?\r" ∷ []
 
 -- slot 9 of a rack with no other supply
 unfoldable pub listThere : List ℕ
@@ -31,11 +32,13 @@ listThere = replicate 9 255 ++ 0 ∷ replicate 21 255
 unfoldable pub there : List Call
 there =
     serial "ADR 9\r" ∷ knob 9 0 50000 ∷ knob 9 1 10000 ∷ key 9 1 ∷
-    key 9 0 ∷ sample 9 40000 5000 ∷ serial "FLT?\r" ∷ []
+    key 9 0 ∷ sample 9 20000 5000 ∷ sample 9 40000 4999 ∷ sample 9 40000 5000 ∷ key 9 0 ∷ sample 9 20000 5000 ∷
+    serial "FLT?\r" ∷ []
 
--- both end with the FOLD trip set, the output still ordered on, in local mode
-unfoldable pub foldedBack : Supply
-foldedBack =
+-- both end with the output on, no trip and the CV memory clear, in local mode. Without the trip the last key would have
+-- turned the output off, and a trip at the first sample, or at the last, would show.
+unfoldable pub chargingAgain : Supply
+chargingAgain =
     record {
       pv = 50000;
       pc = 10000;
@@ -46,13 +49,14 @@ foldedBack =
       ast = false;
       mode = 0;
       lines = 0;
-      «fold_trip» = true;
+      «fold_trip» = false;
       «ovp_trip» = false;
       fena = 0;
       feve = 0;
       sena = 0;
       seve = 0;
-      «volt_count» = 40000;
+      «cv_seen» = false;
+      «volt_count» = 20000;
       «amp_count» = 5000;
     }
 
@@ -64,4 +68,4 @@ pub record MovedRun : Type 0 where
   pub runs-there : (r : Rack) × Run (setupOf listThere) there r
   pub repeated : (r r₂ : Rack) → Run (setupOf fittingList) here r → Run (setupOf listThere) there r₂
       → supplyAt r 6 ≡ supplyAt r₂ 9
-  pub ends-as : (r : Rack) → Run (setupOf fittingList) here r → supplyAt r 6 ≡ foldedBack
+  pub ends-as : (r : Rack) → Run (setupOf fittingList) here r → supplyAt r 6 ≡ chargingAgain

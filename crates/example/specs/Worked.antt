@@ -151,6 +151,7 @@ endState =
       feve = 0;
       sena = 0x83;
       seve = 0;
+      «cv_seen» = false;
       «volt_count» = 45834;
       «amp_count» = 0;
     }

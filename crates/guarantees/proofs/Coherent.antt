@@ -22,6 +22,7 @@ use Rattle.supply.specs.declared.Act.the-variants.{Lines, Sample, Press, Turn, 
 use Rattle.supply.specs.With.{withFeve, withSeve, withWant, withArmed, withMode, withCounts}
 use Rattle.supply.specs.State.{fresh}
 use Rattle.supply.specs.Flt.{onOf, linesClear, inLimit}
+use Rattle.supply.specs.Memory.{cvForgotten}
 use Rattle.supply.specs.Registers.{feveGained, seveGained, settled}
 use Rattle.settings.specs.Settings.{withSetting, stepped}
 use Rattle.samples.specs.Samples.{reachesOvp, tripsFold, sampled}
@@ -79,15 +80,16 @@ module _ (s : Supply) (h : Coherent s) where
   sample-coherent : (m v a : ℕ) → Coherent (sampled m s v a)
   unfolding sampled
   sample-coherent m v a =
-      let limited : Bool = s .armed && inLimit m (withCounts v a s) in
+      let limited : Bool = inLimit m (withCounts v a s) && (s .armed && s .«cv_seen») in
       record {
         mode-known = h .mode-known;
         lines-listed = h .lines-listed;
         fold-armed = either (tripsFold m s v a) (s .«fold_trip») (s .armed)
             (λ e.
             let under = and-eq-true-iff (onOf s) (not (reachesOvp m s v) && limited) .0 e .1 in
-            let armed = and-eq-true-iff (not (reachesOvp m s v)) limited .0 under .1 in
-            and-eq-true-iff (s .armed) (inLimit m (withCounts v a s)) .0 armed .0)
+            let at-limit = and-eq-true-iff (not (reachesOvp m s v)) limited .0 under .1 in
+            let ready = and-eq-true-iff (inLimit m (withCounts v a s)) (s .armed && s .«cv_seen») .0 at-limit .1 in
+            and-eq-true-iff (s .armed) (s .«cv_seen») .0 ready .0)
             (h .fold-armed);
         sena-enabling = h .sena-enabling;
       }
@@ -174,6 +176,10 @@ module _ (m : ℕ) where
   act-coherent s (Ask q) c h = by-query (λ q x. Coherent x) s (λ q. h) h h q
   act-coherent s Nothing c h = h
 
+  forgotten-coherent : (s : Supply) → Coherent s → Coherent (cvForgotten s)
+  unfolding cvForgotten
+  forgotten-coherent s h = h
+
   settled-coherent : (s t : Supply) → Coherent t → Coherent (settled m s t)
   unfolding settled seveGained feveGained
   settled-coherent s t h = h
@@ -183,6 +189,7 @@ module _ (m : ℕ) where
   unfolding performed
   performed-coherent s a c h =
       C (eqb (codeOf m s a) 0) (closed a (settled m s (acted m s a))) s
+      (forgotten-coherent (cleared (clearingAct a) (settled m s (acted m s a)))
       (cleared-coherent (clearingAct a) (settled m s (acted m s a))
-      (settled-coherent s (acted m s a) (act-coherent s a c h)))
+      (settled-coherent s (acted m s a) (act-coherent s a c h))))
       h

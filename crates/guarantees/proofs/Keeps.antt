@@ -23,6 +23,7 @@ use Rattle.supply.specs.declared.Act.the-variants.{Lines, Sample, Press, Turn, 
 use Rattle.supply.specs.With.{withFeve, withSeve, withWant, withArmed, withMode, withOvpTrip}
 use Rattle.supply.specs.State.{fresh}
 use Rattle.supply.specs.Flt.{onOf, linesClear}
+use Rattle.supply.specs.Memory.{cvForgotten}
 use Rattle.supply.specs.Registers.{feveGained, seveGained, settled}
 use Rattle.settings.specs.Settings.{withSetting, stepped}
 use Rattle.samples.specs.Samples.{sampled}
@@ -141,6 +142,10 @@ module _ (m : ℕ) where
   act-keeps s (Ask q) e h = by-query (λ q x. Lawful m x) s (λ q. h) h h q
   act-keeps s Nothing e h = h
 
+  forgotten-keeps : (s : Supply) → Lawful m s → Lawful m (cvForgotten s)
+  unfolding cvForgotten
+  forgotten-keeps s h = h
+
   settled-keeps : (s t : Supply) → Lawful m t → Lawful m (settled m s t)
   unfolding settled seveGained feveGained
   settled-keeps s t h = h
@@ -151,5 +156,8 @@ module _ (m : ℕ) where
   performed-lawful s a h = byCode (eqb (codeOf m s a) 0) refl
     where
       byCode : (t : Bool) → eqb (codeOf m s a) 0 ≡ t → Lawful m (pick t (closed a (settled m s (acted m s a))) s)
-      byCode true e = cleared-keeps (clearingAct a) (settled m s (acted m s a)) (settled-keeps s (acted m s a) (act-keeps s a (eqb-true (codeOf m s a) 0 e) h))
+      byCode true e =
+          forgotten-keeps (cleared (clearingAct a) (settled m s (acted m s a)))
+          (cleared-keeps (clearingAct a) (settled m s (acted m s a))
+          (settled-keeps s (acted m s a) (act-keeps s a (eqb-true (codeOf m s a) 0 e) h)))
       byCode false e = h

@@ -2,3 +2,4 @@ pub mod Registers
 pub mod Keeps
 pub mod Coherent
 pub mod Trips
+pub mod Memory

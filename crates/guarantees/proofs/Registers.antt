@@ -2,7 +2,7 @@
 -- before they gain.
 use Prim.Native.Nat.{ℕ, _<_}
 use mathlib.Core.Path.{_≡_, refl, sym, ap, _∙_}
-use mathlib.Core.Bool.{Bool, true, false, not, _&&_, _||_}
+use mathlib.Core.Bool.{Bool, true, false, not, _&&_, _||_, false≢true}
 use mathlib.Core.Logic.{inl, inr, ⊎-map}
 use lib.Bits.{bitAnd}
 use lib.Dec.{eqb}
@@ -22,9 +22,10 @@ use Rattle.supply.specs.declared.Query.{Query}
 use Rattle.supply.specs.declared.Query.the-variants as query
 use Rattle.supply.specs.declared.Act.{Act}
 use Rattle.supply.specs.declared.Act.the-variants.{Lines, Sample, Press, Turn, Obey, Ask, Nothing}
-use Rattle.supply.specs.With.{withFena, withFeve, withSena, withSeve, withWant, withArmed, withMode}
+use Rattle.supply.specs.With.{withFena, withFeve, withSena, withSeve, withCvSeen, withWant, withArmed, withMode}
 use Rattle.supply.specs.Flt.{fltOf, onOf, linesClear, inLimit}
 use Rattle.supply.specs.Stat.{statOf}
+use Rattle.supply.specs.Memory.{cvForgotten}
 use Rattle.supply.specs.Registers.{feveGained, seveGained, settled}
 use Rattle.supply.proofs.Gains.{feve-bit, seve-bit, feve-none, seve-none, seve-idle, settled-idle}
 use Rattle.settings.specs.Settings.{withSetting, stepped}
@@ -36,6 +37,7 @@ use Rattle.orders.specs.Orders.{remote, remoteBy, outDone, fldDone, senaBits, r
 use Rattle.acts.specs.Acts.{codeOf, afterQuery, clearingOrder, clearingAct, cleared, acted, closed, performed}
 use Rattle.acts.proofs.Clearing.{order-is, by-query}
 use Rattle.acts.proofs.Idle.{unmoved, query-done}
+use Rattle.guarantees.specs.Memory.{SeenOn}
 use Rattle.guarantees.specs.Registers.{Register, feve, seve, heldIn, watched, enabledFor, queryFor, Clears, gains, RegisterGain, EnablesKept}
 
 -- the order that sets what enables a register
@@ -47,13 +49,14 @@ by-register : (P : Register → Type 0) → P feve → P seve → (r : Register)
 by-register P f e feve = f
 by-register P f e seve = e
 
--- both registers, FENA and SENA as supply s has them
+-- both registers, FENA, SENA and the CV memory as supply s has them
 module _ (s : Supply) where
-  record Same (t : Supply) : Type 0 where
+  pub record Same (t : Supply) : Type 0 where
     feve-is : t .feve ≡ s .feve
     seve-is : t .seve ≡ s .seve
     fena-is : t .fena ≡ s .fena
     sena-is : t .sena ≡ s .sena
+    pub seen-is : t .«cv_seen» ≡ s .«cv_seen»
 
   held : (r : Register) {t : Supply} → Same t → heldIn r t ≡ heldIn r s
   held feve h = h .feve-is
@@ -64,43 +67,44 @@ module _ (s : Supply) where
   enabled seve h = h .sena-is
 
   -- a change of anything else, by its value
-  other : (t : Supply) → t .feve ≡ s .feve → t .seve ≡ s .seve → t .fena ≡ s .fena → t .sena ≡ s .sena → Same t
-  other t f e n k = record { feve-is = f; seve-is = e; fena-is = n; sena-is = k }
+  other : (t : Supply) → t .feve ≡ s .feve → t .seve ≡ s .seve → t .fena ≡ s .fena → t .sena ≡ s .sena
+      → t .«cv_seen» ≡ s .«cv_seen» → Same t
+  other t f e n k c = record { feve-is = f; seve-is = e; fena-is = n; sena-is = k; seen-is = c }
 
   same : Same s
-  same = other s refl refl refl refl
+  same = other s refl refl refl refl refl
 
   abbrev S : (t : Bool) (a b : Supply) → Same a → Same b → Same (pick t a b)
   S = pick-keeps Same
 
   disarm-same : Same (disarmed s)
-  disarm-same = rw (← disarm-law s) (other _ refl refl refl refl)
+  disarm-same = rw (← disarm-law s) (other _ refl refl refl refl refl)
 
   turned-on-same : Same (turnedOn s)
   unfolding turnedOn
-  turned-on-same = other _ refl refl refl refl
+  turned-on-same = other _ refl refl refl refl refl
 
-  key-same : (k : Key) → Same (pressed s k)
+  pub key-same : (k : Key) → Same (pressed s k)
   unfolding pressed
   key-same Output =
       S (eqb (s .mode) 0) (pick (onOf s) (withWant false s) (pick (linesClear s) (turnedOn s) s)) s
-      (S (onOf s) (withWant false s) (pick (linesClear s) (turnedOn s) s) (other _ refl refl refl refl)
+      (S (onOf s) (withWant false s) (pick (linesClear s) (turnedOn s) s) (other _ refl refl refl refl refl)
       (S (linesClear s) (turnedOn s) s turned-on-same same))
       same
   key-same Fold =
       S (eqb (s .mode) 0) (pick (s .armed) (disarmed s) (withArmed true s)) s
-      (S (s .armed) (disarmed s) (withArmed true s) disarm-same (other _ refl refl refl refl))
+      (S (s .armed) (disarmed s) (withArmed true s) disarm-same (other _ refl refl refl refl refl))
       same
-  key-same Local = S (eqb (s .mode) 1) (withMode 0 s) s (other _ refl refl refl refl) same
+  key-same Local = S (eqb (s .mode) 1) (withMode 0 s) s (other _ refl refl refl refl refl) same
 
   setting-same : (t : Target) (x : ℕ) → Same (withSetting t x s)
   unfolding withSetting
-  setting-same Pv x = other _ refl refl refl refl
-  setting-same Pc x = other _ refl refl refl refl
-  setting-same Ovp x = other _ refl refl refl refl
-  setting-same Uvl x = other _ refl refl refl refl
+  setting-same Pv x = other _ refl refl refl refl refl
+  setting-same Pc x = other _ refl refl refl refl refl
+  setting-same Ovp x = other _ refl refl refl refl refl
+  setting-same Uvl x = other _ refl refl refl refl refl
 
-  knob-same : (m : ℕ) (t : Target) (raw : ℕ) → Same (turned m s t raw)
+  pub knob-same : (m : ℕ) (t : Target) (raw : ℕ) → Same (turned m s t raw)
   unfolding turned
   knob-same m t raw =
       let x : ℕ = stepped (limitsOf m) s t raw in
@@ -108,13 +112,13 @@ module _ (s : Supply) where
 
   set-same : (t : Target) (x : ℕ) → Same (remoteBy t (withSetting t x s))
   unfolding remoteBy remote withSetting
-  set-same Pv x = other _ refl refl refl refl
-  set-same Pc x = other _ refl refl refl refl
-  set-same Ovp x = other _ refl refl refl refl
-  set-same Uvl x = other _ refl refl refl refl
+  set-same Pv x = other _ refl refl refl refl refl
+  set-same Pc x = other _ refl refl refl refl refl
+  set-same Ovp x = other _ refl refl refl refl refl
+  set-same Uvl x = other _ refl refl refl refl refl
 
-  -- what holds after FENA, SENA, CLS and RST, and where all four are as they were, holds after every order
-  by-order :
+  -- what holds after FENA, SENA, CLS and RST, and where all of these are as they were, holds after every order
+  pub by-order :
       (P : Order → Supply → Type 0) (m : ℕ)
       → ((o : Order) (t : Supply) → Same t → P o t)
       → ((b : ℕ) → P (Fena b) (ordered m s (Fena b))) → ((b : ℕ) → P (Sena b) (ordered m s (Sena b)))
@@ -122,13 +126,13 @@ module _ (s : Supply) where
       → (o : Order) → P o (ordered m s o)
   unfolding ordered outDone fldDone remote turnedOn
   by-order P m h f e c r (Set t n) = h (Set t n) _ (set-same t n)
-  by-order P m h f e c r Ovm = h Ovm _ (other _ refl refl refl refl)
-  by-order P m h f e c r (Out true) = h (Out true) _ (other _ refl refl refl refl)
-  by-order P m h f e c r (Out false) = h (Out false) _ (other _ refl refl refl refl)
-  by-order P m h f e c r (Fld true) = h (Fld true) _ (other _ refl refl refl refl)
+  by-order P m h f e c r Ovm = h Ovm _ (other _ refl refl refl refl refl)
+  by-order P m h f e c r (Out true) = h (Out true) _ (other _ refl refl refl refl refl)
+  by-order P m h f e c r (Out false) = h (Out false) _ (other _ refl refl refl refl refl)
+  by-order P m h f e c r (Fld true) = h (Fld true) _ (other _ refl refl refl refl refl)
   by-order P m h f e c r (Fld false) = h (Fld false) _ (S (s .armed) (disarmed s) s disarm-same same)
-  by-order P m h f e c r (Ast b) = h (Ast b) _ (other _ refl refl refl refl)
-  by-order P m h f e c r (Rmt k) = h (Rmt k) _ (other _ refl refl refl refl)
+  by-order P m h f e c r (Ast b) = h (Ast b) _ (other _ refl refl refl refl refl)
+  by-order P m h f e c r (Rmt k) = h (Rmt k) _ (other _ refl refl refl refl refl)
   by-order P m h f e c r (Fena b) = f b
   by-order P m h f e c r (Sena b) = e b
   by-order P m h f e c r Cls = c
@@ -158,18 +162,20 @@ module _ (s : Supply) where
   query-same seve q =
       by-query (λ p x. (p ≡ query.Seve → ⊥) → x .seve ≡ s .seve) s (λ p n. refl) (λ n. refl) (λ n. absurd (n refl)) q
 
-  lines-same : (b : ℕ) → Same (linesChanged s b)
-  lines-same b = rw (← lines-law s b) (other _ refl refl refl refl)
+  pub lines-same : (b : ℕ) → Same (linesChanged s b)
+  lines-same b = rw (← lines-law s b) (other _ refl refl refl refl refl)
 
-  sample-same : (m v a : ℕ) → Same (sampled m s v a)
+  -- a sample can set the CV memory, and nothing of the rest
+  sample-held : (r : Register) (m v a : ℕ) → (heldIn r (sampled m s v a) ≡ heldIn r s) × (enabledFor r (sampled m s v a) ≡ enabledFor r s)
   unfolding sampled
-  sample-same m v a = other _ refl refl refl refl
+  sample-held feve m v a = (refl, refl)
+  sample-held seve m v a = (refl, refl)
 
   -- the first stage leaves a register alone unless the act clears it
   acted-same : (r : Register) (m : ℕ) (a : Act) → (Clears r a → ⊥) → heldIn r (acted m s a) ≡ heldIn r s
   unfolding acted
   acted-same r m (Lines b) n = held r (lines-same b)
-  acted-same r m (Sample v a) n = held r (sample-same m v a)
+  acted-same r m (Sample v a) n = sample-held r m v a .0
   acted-same r m (Press k) n = held r (key-same k)
   acted-same r m (Turn t raw) n = held r (knob-same m t raw)
   acted-same r m (Obey o) n = order-same r m o (λ e. n (inr (inl (ap Obey e)))) (λ e. n (inr (inr (ap Obey e))))
@@ -180,7 +186,7 @@ module _ (s : Supply) where
   acted-enables : (r : Register) (m : ℕ) (a : Act) → ((b : ℕ) → a ≡ Obey (enabling r b) → ⊥) → enabledFor r (acted m s a) ≡ enabledFor r s
   unfolding acted
   acted-enables r m (Lines b) n = enabled r (lines-same b)
-  acted-enables r m (Sample v a) n = enabled r (sample-same m v a)
+  acted-enables r m (Sample v a) n = sample-held r m v a .1
   acted-enables r m (Press k) n = enabled r (key-same k)
   acted-enables r m (Turn t raw) n = enabled r (knob-same m t raw)
   acted-enables r m (Obey o) n = order-enables r m o (λ b e. n b (ap Obey e))
@@ -195,6 +201,17 @@ module _ (s : Supply) where
 watched-seve : (m : ℕ) (s t : Supply) → (fltOf (seveGained m s t) ≡ fltOf t) × (statOf m (seveGained m s t) ≡ statOf m t)
 unfolding seveGained fltOf statOf onOf inLimit
 watched-seve m s t = (refl, refl)
+
+-- nor on the CV memory; and forgetting moves no register
+forgotten-held : (r : Register) (s : Supply) → heldIn r (cvForgotten s) ≡ heldIn r s
+unfolding cvForgotten
+forgotten-held feve s = refl
+forgotten-held seve s = refl
+
+forgotten-watched : (r : Register) (m : ℕ) (s : Supply) → watched r m (cvForgotten s) ≡ watched r m s
+unfolding cvForgotten fltOf statOf onOf inLimit
+forgotten-watched feve m s = refl
+forgotten-watched seve m s = refl
 
 feve-flt : (s t : Supply) → fltOf (feveGained s t) ≡ fltOf t
 unfolding feveGained fltOf
@@ -223,14 +240,24 @@ unclosing r (Press k) n = refl
 unclosing r (Turn t raw) n = refl
 unclosing r Nothing n = refl
 
+-- forgetting changes nothing where the memory is set only with the output on
+pub seen-only : (on seen : Bool) → (seen ≡ true → on ≡ true) → (on && seen) ≡ seen
+seen-only true seen h = refl
+seen-only false true h = absurd (false≢true (h refl))
+seen-only false false h = refl
+
+pub nothing-forgotten : (s : Supply) → SeenOn s → cvForgotten s ≡ s
+unfolding cvForgotten
+nothing-forgotten s h = ap (λ (b : Bool). withCvSeen b s) (seen-only (onOf s) (s .«cv_seen») h)
+
 module _ (m : ℕ) (s : Supply) where
-  accepted : (a : Act) → codeOf m s a ≡ 0 → performed m s a ≡ closed a (settled m s (acted m s a))
+  pub accepted : (a : Act) → codeOf m s a ≡ 0 → performed m s a ≡ closed a (settled m s (acted m s a))
   unfolding performed
   accepted a e = pick-true _ _ _ (eq-eqb (codeOf m s a) 0 e)
 
-  -- an accepted act that clears neither register at its close is its first stage, settled
-  unclosed : (r : Register) (a : Act) → codeOf m s a ≡ 0 → (Clears r a → ⊥) → performed m s a ≡ settled m s (acted m s a)
-  unclosed r a e n = accepted a e ∙ pick-false _ _ _ (unclosing r a n)
+  -- an accepted act that clears neither register at its close is its first stage, settled, but for the CV memory
+  unclosed : (r : Register) (a : Act) → codeOf m s a ≡ 0 → (Clears r a → ⊥) → performed m s a ≡ cvForgotten (settled m s (acted m s a))
+  unclosed r a e n = accepted a e ∙ ap cvForgotten (pick-false _ _ _ (unclosing r a n))
 
   module _ (a : Act) where
     abbrev t : Supply
@@ -260,12 +287,15 @@ module _ (m : ℕ) (s : Supply) where
 
     module _ (r : Register) (n : Clears r a → ⊥) where
       watched-after : codeOf m s a ≡ 0 → watched r m (performed m s a) ≡ shown r
-      watched-after e = ap (watched r m) (unclosed r a e n) ∙ watched-settled r
+      watched-after e = ap (watched r m) (unclosed r a e n) ∙ forgotten-watched r m (settled m s t) ∙ watched-settled r
+
+      held-after : codeOf m s a ≡ 0 → heldIn r (performed m s a) ≡ heldIn r (settled m s t)
+      held-after e = ap (heldIn r) (unclosed r a e n) ∙ forgotten-held r (settled m s t)
 
       bits : codeOf m s a ≡ 0 → (k : ℕ) → k < 8 → bitAt k (heldIn r (performed m s a)) ≡ (bitAt k (heldIn r s) || gains r m s a k)
       bits e k h =
           rw (watched-after e)
-          (ap (λ (x : Supply). bitAt k (heldIn r x)) (unclosed r a e n)
+          (ap (bitAt k) (held-after e)
           ∙ settled-bit r k h
           ∙ ap (λ (x : ℕ). bitAt k x || rose r k) (acted-same s r m a n))
 
@@ -276,7 +306,7 @@ module _ (m : ℕ) (s : Supply) where
           byCode true e =
               let ok : codeOf m s a ≡ 0 = eqb-true (codeOf m s a) 0 e in
               let still : (k : ℕ) → k < 8 → rose r k ≡ false = λ k h. rw (watched-after ok) at (idle k h) in
-              ap (heldIn r) (unclosed r a ok n) ∙ settled-none r still ∙ acted-same s r m a n
+              held-after ok ∙ settled-none r still ∙ acted-same s r m a n
           byCode false e = ap (heldIn r) (unmoved m s a (eqb-false (codeOf m s a) 0 e))
 
   -- FEVE? leaves FEVE 0; SEVE? raises no bit of STAT, and leaves SEVE 0; CLS and RST leave both 0
@@ -286,13 +316,14 @@ module _ (m : ℕ) (s : Supply) where
 
   asked-clears : (r : Register) → heldIn r (performed m s (Ask (queryFor r))) ≡ 0
   unfolding afterQuery
-  asked-clears feve =
-      ap (λ (x : Supply). x .feve) (sym (query-done m s query.Feve)) ∙ seve-feve m s (withFeve 0 s)
-  asked-clears seve =
-      ap (λ (x : Supply). x .seve) (sym (query-done m s query.Seve) ∙ seve-idle s (withSeve 0 s) m cleared-stat)
+  asked-clears r = ap (heldIn r) (sym (query-done m s (queryFor r))) ∙ forgotten-held r _ ∙ own r
+    where
+      own : (r : Register) → heldIn r (seveGained m s (afterQuery (queryFor r) s)) ≡ 0
+      own feve = seve-feve m s (withFeve 0 s)
+      own seve = ap (λ (x : Supply). x .seve) (seve-idle s (withSeve 0 s) m cleared-stat)
 
   order-clears : (r : Register) → (heldIn r (performed m s (Obey Cls)) ≡ 0) × (heldIn r (performed m s (Obey Rst)) ≡ 0)
-  unfolding performed codeOf orderCode clearingAct clearingOrder
+  unfolding performed codeOf orderCode clearingAct clearingOrder cvForgotten
   order-clears feve = (refl, refl)
   order-clears seve = (refl, refl)
 
@@ -306,8 +337,9 @@ module _ (m : ℕ) (s : Supply) where
   register-gain r a = record { refused = unmoved m s a; bits = λ e n. bits a r n e; none = none a r; clears = clears r a }
 
   -- the later stages leave FENA and SENA alone
-  later-same : (t : Supply) (b : Bool) → (cleared b (settled m s t) .fena ≡ t .fena) × (cleared b (settled m s t) .sena ≡ t .sena)
-  unfolding settled seveGained feveGained
+  later-same : (t : Supply) (b : Bool)
+      → (cvForgotten (cleared b (settled m s t)) .fena ≡ t .fena) × (cvForgotten (cleared b (settled m s t)) .sena ≡ t .sena)
+  unfolding settled seveGained feveGained cvForgotten
   later-same t true = (refl, refl)
   later-same t false = (refl, refl)
 
@@ -319,9 +351,15 @@ module _ (m : ℕ) (s : Supply) where
   pub enables-kept : EnablesKept m s
   unfolding performed codeOf orderCode clearingAct clearingOrder acted ordered fltOf statOf onOf inLimit
   enables-kept =
+      let fena : (b : ℕ) → performed m s (Obey (Fena b)) ≡ cvForgotten (withFena b s) =
+      λ b. ap cvForgotten (settled-idle m s (withFena b s) refl refl) in
+      let sena : (b : ℕ) → performed m s (Obey (Sena b)) ≡ cvForgotten (withSena (bitAnd b 0x8F) s) =
+      λ b. ap cvForgotten (settled-idle m s (withSena (bitAnd b 0x8F) s) refl refl) in
       record {
-        fena-taken = λ b. settled-idle m s (withFena b s) refl refl;
-        sena-taken = λ b. settled-idle m s (withSena (bitAnd b 0x8F) s) refl refl;
+        fena-taken = fena;
+        sena-taken = sena;
+        fena-alone = λ h b. fena b ∙ nothing-forgotten (withFena b s) h;
+        sena-alone = λ h b. sena b ∙ nothing-forgotten (withSena (bitAnd b 0x8F) s) h;
         fena-kept = λ a n. moved-by (λ (x : Supply). x .fena ≡ s .fena) a refl (later-same (acted m s a) (clearingAct a) .0 ∙ acted-enables s feve m a n);
         sena-kept = λ a n. moved-by (λ (x : Supply). x .sena ≡ s .sena) a refl (later-same (acted m s a) (clearingAct a) .1 ∙ acted-enables s seve m a n);
       }

@@ -1,12 +1,12 @@
 -- Only a named release takes a trip away, every named release does, and only a sample sets one.
 use mathlib.Core.Path.{_≡_, refl, sym, ap, _∙_}
-use mathlib.Core.Bool.{Bool, true, false, not, _&&_, _||_, false≢true, true≢false, or-false, or-comm}
+use mathlib.Core.Bool.{Bool, true, false, not, _&&_, _||_, false≢true, true≢false, and-eq-true-iff, or-false, or-comm}
 use Prim.Native.Nat.{ℕ}
 use lib.Dec.{eqb}
-use borrow.Author.Tests.{eqb-true, eq-eqb}
+use borrow.Author.Tests.{eqb-true, eq-eqb, le-leb, lt-leb, leb-true, leb-false, not-true}
 use Rattle.base.specs.Choice.{pick}
 use Rattle.base.proofs.Choice.{pick-true}
-use Rattle.models.specs.Models.{limitsOf}
+use Rattle.models.specs.Models.{limitsOf, voltReading, ampReading}
 use Rattle.supply.specs.declared.Supply.{Supply}
 use Rattle.supply.specs.declared.Key.{Key}
 use Rattle.supply.specs.declared.Key.the-variants.{Output, Fold, Local}
@@ -17,18 +17,20 @@ use Rattle.supply.specs.declared.Order.the-variants.{Set, Ovm, Out, Fld, Ast, R
 use Rattle.supply.specs.declared.Query.{Query}
 use Rattle.supply.specs.declared.Act.{Act}
 use Rattle.supply.specs.declared.Act.the-variants.{Lines, Sample, Press, Turn, Obey, Ask, Nothing}
-use Rattle.supply.specs.With.{withWant, withArmed, withMode}
+use Rattle.supply.specs.With.{withWant, withArmed, withMode, withCounts}
 use Rattle.supply.specs.State.{fresh}
-use Rattle.supply.specs.Flt.{onOf, linesClear}
+use Rattle.supply.specs.Flt.{onOf, linesClear, inLimit}
+use Rattle.supply.specs.Memory.{cvForgotten}
 use Rattle.supply.specs.Registers.{feveGained, seveGained, settled}
 use Rattle.settings.specs.Settings.{withSetting, stepped}
-use Rattle.samples.specs.Samples.{tripsOvp, tripsFold, sampled}
+use Rattle.samples.specs.Samples.{reachesOvp, tripsOvp, tripsFold, sampled}
 use Rattle.events.specs.Events.{falls, linesChanged, turnedOn, disarmed, pressed, turned}
 use Rattle.codes.specs.Codes.{orderCode}
 use Rattle.orders.specs.Orders.{remote, remoteBy, outDone, fldDone, reset, ordered}
 use Rattle.acts.specs.Acts.{codeOf, afterQuery, clearingOrder, clearingAct, cleared, acted, closed, performed}
 use Rattle.acts.proofs.Clearing.{by-query}
 use Rattle.guarantees.specs.Releases.{Trip, fold, ovp, isSet, isOvp, orderReleases, keyReleases, releases}
+use Rattle.guarantees.specs.Trips.{SampleMoves, OvpNeeds, FoldNeeds, Needs, SampleTrips, TripSet}
 use Rattle.events.proofs.Cases.{lines-law, disarm-law}
 use Rattle.supply.proofs.FltBits.{want-off-shut, fold-shut, ovp-shut}
 
@@ -99,6 +101,10 @@ settled-same k m s t = by-trip (λ j. Same j (settled m s t) t) refl refl k
 cleared-same : (k : Trip) (t : Bool) (s : Supply) → Same k (cleared t s) s
 cleared-same k true s = by-trip (λ j. Same j (cleared true s) s) refl refl k
 cleared-same k false s = refl
+
+forgotten-same : (k : Trip) (s : Supply) → Same k (cvForgotten s) s
+unfolding cvForgotten
+forgotten-same k s = by-trip (λ j. Same j (cvForgotten s) s) refl refl k
 
 query-same : (k : Trip) (q : Query) (s : Supply) → Same k (afterQuery q s) s
 query-same k q s =
@@ -235,7 +241,7 @@ module _ (m : ℕ) (k : Trip) (s : Supply) where
   trip-law a = byCode (eqb (codeOf m s a) 0) refl
     where
       byCode : (t : Bool) → eqb (codeOf m s a) 0 ≡ t → isSet k (pick t (closed a (settled m s (acted m s a))) s) ≡ (left (releases m k s a) (isSet k s) || sets m k s a)
-      byCode true e = cleared-same k (clearingAct a) (settled m s (acted m s a)) ∙ settled-same k m s (acted m s a) ∙ acted-trip a (eqb-true (codeOf m s a) 0 e)
+      byCode true e = forgotten-same k (cleared (clearingAct a) (settled m s (acted m s a))) ∙ cleared-same k (clearingAct a) (settled m s (acted m s a)) ∙ settled-same k m s (acted m s a) ∙ acted-trip a (eqb-true (codeOf m s a) 0 e)
       byCode false e = let i = refused-idle a e in rw (i .0, i .1) (sym (or-false _))
 
   -- only a release takes a trip away
@@ -257,9 +263,74 @@ module _ (m : ℕ) (k : Trip) (s : Supply) where
   pub frees : (a : Act) → releases m k s a ≡ true → isSet k (performed m s a) ≡ false
   frees a r = trip-law a ∙ rw (r, release-idle a r) refl
 
+-- what a sample needs, from its tests
+all-five : {a b c d e : Bool} → a ≡ true → b ≡ false → c ≡ true → d ≡ true → e ≡ true
+    → (a && (not b && (c && (d && e)))) ≡ true
+all-five p q r t u = rw (p, q, r, t, u) refl
+
+fold-needs : (m : ℕ) (s : Supply) (v a : ℕ) → tripsFold m s v a ≡ true → FoldNeeds m s v a
+unfolding inLimit
+fold-needs m s v a e =
+    let one = and-eq-true-iff (onOf s) _ .0 e in
+    let two = and-eq-true-iff (not (reachesOvp m s v)) _ .0 (one .1) in
+    let three = and-eq-true-iff (inLimit m (withCounts v a s)) _ .0 (two .1) in
+    let four = and-eq-true-iff (s .armed) (s .«cv_seen») .0 (three .1) in
+    record {
+      on = one .0;
+      below-ovp = leb-false (s .ovp) (voltReading m v) (not-true _ (two .0));
+      at-pc = leb-true (s .pc) (ampReading m a) (three .0);
+      armed = four .0;
+      seen = four .1;
+    }
+
+ovp-needs : (m : ℕ) (s : Supply) (v : ℕ) → tripsOvp m s v ≡ true → OvpNeeds m s v
+ovp-needs m s v e =
+    let one = and-eq-true-iff (onOf s) (reachesOvp m s v) .0 e in
+    record { on = one .0; at-ovp = leb-true (s .ovp) (voltReading m v) (one .1) }
+
+module _ (m : ℕ) (k : Trip) (s : Supply) where
+  needed : (v a : ℕ) → Needs m k s v a → sets m k s (Sample v a) ≡ true
+  unfolding inLimit
+  needed v a n = byTrip k n
+    where
+      byTrip : (j : Trip) → Needs m j s v a → sets m j s (Sample v a) ≡ true
+      byTrip ovp n = rw (n .on, le-leb (s .ovp) (voltReading m v) (n .at-ovp)) refl
+      byTrip fold n =
+          all-five (n .on) (lt-leb (s .ovp) (voltReading m v) (n .below-ovp)) (le-leb (s .pc) (ampReading m a) (n .at-pc)) (n .armed) (n .seen)
+
+  needs : (v a : ℕ) → sets m k s (Sample v a) ≡ true → Needs m k s v a
+  needs v a e = by-trip (λ j. sets m j s (Sample v a) ≡ true → Needs m j s v a) (fold-needs m s v a) (ovp-needs m s v) k e
+
+  set-by : (act : Act) → sets m k s act ≡ true → SampleTrips m k s act
+  set-by (Sample v a) e = record { volts = v; amps = a; is = refl; needs = needs v a e }
+  set-by (Lines b) e = absurd (false≢true e)
+  set-by (Press j) e = absurd (false≢true e)
+  set-by (Turn t raw) e = absurd (false≢true e)
+  set-by (Obey o) e = absurd (false≢true e)
+  set-by (Ask q) e = absurd (false≢true e)
+  set-by Nothing e = absurd (false≢true e)
+
+  -- WHAT SETS A TRIP
+  pub trip-set : TripSet m k s
+  trip-set =
+      record {
+        when = λ v a n.
+            trip-law m k s (Sample v a) ∙ rw (needed v a n) (or-comm (left (releases m k s (Sample v a)) (isSet k s)) true);
+        only = λ act clear e. set-by act (added (releases m k s act) clear (sym (trip-law m k s act) ∙ e));
+      }
+    where
+      added : (r : Bool) {x y : Bool} → x ≡ false → (left r x || y) ≡ true → y ≡ true
+      added true c e = e
+      added false c e = rw c at e
+
+-- WHAT A SAMPLE MOVES
+pub sample-moves : (m : ℕ) (s : Supply) (v a : ℕ) → SampleMoves m s v a
+unfolding performed codeOf clearingAct acted sampled settled seveGained feveGained cvForgotten
+sample-moves m s v a = refl
+
 -- RST, and turning ARMED off on a FOLD trip, leave the output off
 pub reset-off : (m : ℕ) (s : Supply) → onOf (performed m s (Obey Rst)) ≡ false
-unfolding performed codeOf orderCode clearingAct clearingOrder settled seveGained feveGained acted ordered reset fresh
+unfolding performed codeOf orderCode clearingAct clearingOrder settled seveGained feveGained cvForgotten acted ordered reset fresh
 reset-off m s = want-off-shut (performed m s (Obey Rst)) refl
 
 disarmed-off : (s : Supply) → s .«fold_trip» ≡ true → disarmed s .want ≡ false
@@ -268,9 +339,9 @@ disarmed-off s e =
     ap (λ (x : Supply). x .want) (sym (disarm-law s)) ∙ off
 
 pub fld-off : (m : ℕ) (s : Supply) → s .armed ≡ true → s .«fold_trip» ≡ true → onOf (performed m s (Obey (Fld false))) ≡ false
-unfolding performed codeOf orderCode clearingAct clearingOrder settled seveGained feveGained acted ordered fldDone
+unfolding performed codeOf orderCode clearingAct clearingOrder settled seveGained feveGained cvForgotten acted ordered fldDone
 fld-off m s a e = want-off-shut (performed m s (Obey (Fld false))) (ap (λ (x : Supply). x .want) (pick-true (s .armed) (disarmed s) s a) ∙ disarmed-off s e)
 
 pub fold-key-off : (m : ℕ) (s : Supply) → s .mode ≡ 0 → s .armed ≡ true → s .«fold_trip» ≡ true → onOf (performed m s (Press Fold)) ≡ false
-unfolding performed codeOf clearingAct settled seveGained feveGained acted pressed
+unfolding performed codeOf clearingAct settled seveGained feveGained cvForgotten acted pressed
 fold-key-off m s z a e = want-off-shut (performed m s (Press Fold)) (ap (λ (x : Supply). x .want) (pick-true (eqb (s .mode) 0) (pick (s .armed) (disarmed s) (withArmed true s)) s (eq-eqb (s .mode) 0 z) ∙ pick-true (s .armed) (disarmed s) (withArmed true s) a) ∙ disarmed-off s e)

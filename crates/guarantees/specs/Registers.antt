@@ -14,8 +14,10 @@ use Rattle.supply.specs.declared.Act.{Act}
 use Rattle.supply.specs.declared.Act.the-variants.{Obey, Ask}
 use Rattle.supply.specs.With.{withFena, withSena}
 use Rattle.supply.specs.Flt.{fltOf}
+use Rattle.supply.specs.Memory.{cvForgotten}
 use Rattle.supply.specs.Stat.{statOf}
 use Rattle.acts.specs.Acts.{codeOf, performed}
+use Rattle.guarantees.specs.Memory.{SeenOn}
 
 pub data Register : Type 0 where
   feve seve : Register
@@ -59,9 +61,12 @@ pub record RegisterGain (r : Register) (m : ℕ) (s : Supply) (a : Act) : Type 0
   pub clears : Clears r a → heldIn r (performed m s a) ≡ 0
 
 -- WHAT MOVES FENA AND SENA: their own orders and nothing else, RST and CLS included. These orders move nothing else: FENA
--- takes its byte as it is, SENA every bit of its byte but 4 to 6
+-- takes its byte as it is, SENA every bit of its byte but 4 to 6. Like every event they end a CV memory that is set with
+-- the output off; where it is not set so, as in every supply that calls lead to, they move nothing else at all.
 pub record EnablesKept (m : ℕ) (s : Supply) : Type 0 where
-  pub fena-taken : (b : ℕ) → performed m s (Obey (Fena b)) ≡ withFena b s
-  pub sena-taken : (b : ℕ) → performed m s (Obey (Sena b)) ≡ withSena (bitAnd b 0x8F) s
+  pub fena-taken : (b : ℕ) → performed m s (Obey (Fena b)) ≡ cvForgotten (withFena b s)
+  pub sena-taken : (b : ℕ) → performed m s (Obey (Sena b)) ≡ cvForgotten (withSena (bitAnd b 0x8F) s)
+  pub fena-alone : SeenOn s → (b : ℕ) → performed m s (Obey (Fena b)) ≡ withFena b s
+  pub sena-alone : SeenOn s → (b : ℕ) → performed m s (Obey (Sena b)) ≡ withSena (bitAnd b 0x8F) s
   pub fena-kept : (a : Act) → ((b : ℕ) → a ≡ Obey (Fena b) → ⊥) → performed m s a .fena ≡ s .fena
   pub sena-kept : (a : Act) → ((b : ℕ) → a ≡ Obey (Sena b) → ⊥) → performed m s a .sena ≡ s .sena

@@ -15,6 +15,7 @@ use Rattle.plain.specs.Plain.{plainSupply, grammar}
 use Rattle.plain.proofs.Isolation.{isolated}
 use Rattle.plain.proofs.Unaddressed.{addresses-unread}
 use Rattle.plain.proofs.Reached.{shares-coherent}
+use Rattle.plain.proofs.Remembered.{remembers}
 use Rattle.slots.specs.declared.Rack.{Rack}
 use Rattle.calls.specs.declared.Answer.{Answer}
 use Rattle.slots.specs.View.{viewOf, Able}
@@ -71,6 +72,12 @@ isolated-code u calls a f =
       limits = λ past rest r e g. rw (slot-is u past r a g) at (d .invariant past rest e);
       coherent = λ past rest r e g.
           subst Coherent (sym (ends-as u past r a f g)) (shares-coherent .coherent (modelAt u a) u past a);
+      remembers = λ past rest r e g.
+          let w = remembers (modelAt u a) (shareOf grammar u past a) in
+          rw (ends-as u past r a f g) (w .seen, w .since);
+      seen-on = λ past rest r e g. rw (ends-as u past r a f g) (remembers (modelAt u a) (shareOf grammar u past a) .on);
+      folds = λ past e rest is clear set. remembers (modelAt u a) past .folds e clear set;
+      folds-when = λ past p rest is n. remembers (modelAt u a) past .folds-when p n;
       calls-off = λ k past rest r e g t. rw (slot-is u past r a g) at (d .calls-off k past rest e t);
       entries-off = d .entries-off;
       freed = d .freed;

@@ -6,7 +6,7 @@ use mathlib.Core.Bool.{true, false}
 use mathlib.Core.List.{List, [], _∷_, _++_, map}
 use lib.ListN.{length, getD}
 use Rattle.wire.specs.declared.Setup.{Setup}
-use Rattle.wire.specs.Wire.{Entry, Call, modelAt, fitted}
+use Rattle.wire.specs.Wire.{Entry, field, Call, modelAt, fitted}
 use Rattle.wire.specs.Share.{shareOf}
 use Rattle.wire.specs.Rack.{plain}
 use Rattle.wire.specs.Demand3.{TrippedBy}
@@ -15,9 +15,12 @@ use Rattle.supply.specs.State.{fresh}
 use Rattle.supply.specs.Flt.{onOf}
 use Rattle.settings.specs.Lawful.{Lawful}
 use Rattle.guarantees.specs.Coherent.{Coherent}
-use Rattle.guarantees.specs.Releases.{Trip, isSet}
+use Rattle.guarantees.specs.Releases.{Trip, fold, isSet}
+use Rattle.guarantees.specs.Trips.{FoldNeeds}
+use Rattle.field.specs.Fields.{pairAt}
 use Rattle.plain.specs.Plain.{plainSupply, grammar, trips, stepOf, releasesOf}
 use Rattle.plain.specs.Unaddressed.{unaddressed}
+use Rattle.plain.specs.Remembered.{CvSince}
 use Rattle.slots.specs.declared.Rack.{Rack}
 use Rattle.calls.specs.declared.Answer.{Answer}
 use Rattle.fitting.specs.declared.Fitted.{Fitted}
@@ -82,6 +85,26 @@ pub record AtAddress (u : Setup) (calls : List Call) (a : ℕ) : Type 0 where
   -- and so does coherence of the rest of the state: MODE at most 2, only listed bits in LINES, no FOLD trip unless
   -- ARMED
   pub coherent : (past rest : List Call) (r : Rack) → calls ≡ past ++ rest → Run u past r → Coherent (supplyAt r a)
+  -- the CV memory, after every prefix: it is set exactly if a sample of the address's own share was judged CV and the
+  -- output has been on ever since
+  pub remembers : (past rest : List Call) (r : Rack) → calls ≡ past ++ rest → Run u past r
+      → (supplyAt r a .«cv_seen» ≡ true → CvSince (modelAt u a) (fresh (modelAt u a)) (shareOf grammar u past a))
+      × (CvSince (modelAt u a) (fresh (modelAt u a)) (shareOf grammar u past a) → supplyAt r a .«cv_seen» ≡ true)
+  -- so no supply holds it with the output off
+  pub seen-on : (past rest : List Call) (r : Rack) → calls ≡ past ++ rest → Run u past r
+      → supplyAt r a .«cv_seen» ≡ true → onOf (supplyAt r a) ≡ true
+  -- and over the share: no entry sets the FOLD trip unless a sample before it was judged CV and the output has been on
+  -- ever since, so a cell that starts in current limit does not trip
+  pub folds : (past : List Entry) (e : Entry) (rest : List Entry)
+      → shareOf grammar u calls a ≡ past ++ e ∷ rest
+      → isSet fold (plain plainSupply (modelAt u a) past) ≡ false
+      → isSet fold (stepOf (modelAt u a) (plain plainSupply (modelAt u a) past) e) ≡ true
+      → CvSince (modelAt u a) (fresh (modelAt u a)) past
+  -- which a sample at PC does set, if foldback is armed, the output on and the volts below OVP
+  pub folds-when : (past : List Entry) (p : List ℕ) (rest : List Entry)
+      → shareOf grammar u calls a ≡ past ++ field 5 p ∷ rest
+      → FoldNeeds (modelAt u a) (plain plainSupply (modelAt u a) past) (pairAt p 1) (pairAt p 3)
+      → isSet fold (stepOf (modelAt u a) (plain plainSupply (modelAt u a) past) (field 5 p)) ≡ true
   -- the output is off after the call that trips and after every later call, until one brings a release of that trip
   pub calls-off : (k : Trip) (past rest : List Call) (r : Rack) → calls ≡ past ++ rest → Run u past r
       → TrippedBy plainSupply trips (modelAt u a) k (shareOf grammar u past a)

@@ -5,3 +5,4 @@ pub mod Unaddressed
 pub mod Shares
 pub mod Reached
 pub mod Messages
+pub mod Remembered

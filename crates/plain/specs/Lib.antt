@@ -3,3 +3,4 @@ pub mod Classes
 pub mod Unaddressed
 pub mod Shares
 pub mod Reached
+pub mod Remembered

@@ -16,6 +16,7 @@ use Rattle.supply.specs.declared.Target.{Target}
 use Rattle.supply.specs.declared.Target.the-variants.{Pv, Pc, Ovp, Uvl}
 use Rattle.supply.specs.declared.Order.the-variants.{Set}
 use Rattle.supply.specs.declared.Act.the-variants.{Obey}
+use Rattle.supply.specs.Memory.{cvForgotten}
 use Rattle.supply.specs.Registers.{feveGained, seveGained, settled}
 use Rattle.settings.specs.Settings.{settingOf, withSetting}
 use Rattle.codes.specs.Codes.{setCode, orderCode}
@@ -54,6 +55,13 @@ settled-setting Pc m s u = refl
 settled-setting Ovp m s u = refl
 settled-setting Uvl m s u = refl
 
+forgotten-setting : (t : Target) (s : Supply) → settingOf t (cvForgotten s) ≡ settingOf t s
+unfolding cvForgotten settingOf
+forgotten-setting Pv s = refl
+forgotten-setting Pc s = refl
+forgotten-setting Ovp s = refl
+forgotten-setting Uvl s = refl
+
 with-setting : (t : Target) (n : ℕ) (s : Supply) → settingOf t (withSetting t n s) ≡ n
 unfolding withSetting settingOf
 with-setting Pv n s = refl
@@ -66,7 +74,8 @@ pub set-taken : (m : ℕ) (s : Supply) (t : Target) (n : ℕ) → codeOf m s (Ob
 unfolding performed acted ordered clearingAct clearingOrder
 set-taken m s t n e =
     rw e
-    (settled-setting t m s (remoteBy t (withSetting t n s)) ∙ remote-by-setting t (withSetting t n s) ∙ with-setting t n s)
+    (forgotten-setting t (settled m s (remoteBy t (withSetting t n s)))
+    ∙ settled-setting t m s (remoteBy t (withSetting t n s)) ∙ remote-by-setting t (withSetting t n s) ∙ with-setting t n s)
 
 filled : (y : ℕ) (ys : List ℕ) → isEmpty (y ∷ ys) ≡ false
 filled y ys = ne-eqb (length (y ∷ ys)) 0 (λ n. omega arith)

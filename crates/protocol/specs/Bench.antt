@@ -7,7 +7,7 @@ use mathlib.Core.Bool.{false}
 use Rattle.base.specs.Text.{codes}
 use Rattle.supply.specs.declared.Supply.{Supply}
 use Rattle.supply.specs.declared.Target.{Target}
-use Rattle.supply.specs.declared.Target.the-variants.{Pv}
+use Rattle.supply.specs.declared.Target.the-variants.{Pv, Pc}
 use Rattle.supply.specs.declared.Act.the-variants.{Sample, Turn}
 use Rattle.supply.specs.State.{fresh}
 use Rattle.acts.specs.Acts.{performed}
@@ -79,3 +79,18 @@ roundedFigures =
 
 abbrev pub RoundedFigures : Type 0
 RoundedFigures = map drawn roundedFigures ≡ map expected roundedFigures
+
+-- a cell that starts in current limit, as it charges: no trip; its current falls below PC, which is remembered; it rises
+-- to PC again: FOLD trips; turned on again, the cell may charge again
+unfoldable pub chargingCell : BenchFigure
+chargingCell =
+    benchFigure 0
+    (step Pc 10000 ∷ line "PV 5" ∷ line "FLD 1" ∷ line "OUT 1" ∷
+    counts 20000 5000 ∷ line "MODE?" ∷ line "FLT?" ∷
+    counts 40000 4999 ∷ line "MODE?" ∷ line "FLT?" ∷
+    counts 40000 5000 ∷ line "MODE?" ∷ line "FLT?" ∷
+    line "OUT 1" ∷ counts 20000 5000 ∷ line "MODE?" ∷ line "FLT?" ∷ [])
+    ("OK" ∷ "OK" ∷ "OK" ∷ "CC" ∷ "00" ∷ "CV" ∷ "00" ∷ "OFF" ∷ "08" ∷ "OK" ∷ "CC" ∷ "00" ∷ [])
+
+abbrev pub ChargingCell : Type 0
+ChargingCell = drawn chargingCell ≡ expected chargingCell

@@ -23,6 +23,7 @@ fresh m =
       feve = 0;
       sena = 0;
       seve = 0;
+      «cv_seen» = false;
       «volt_count» = 0;
       «amp_count» = 0;
     }

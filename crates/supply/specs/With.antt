@@ -21,6 +21,7 @@ withPv x s =
       feve = s .feve;
       sena = s .sena;
       seve = s .seve;
+      «cv_seen» = s .«cv_seen»;
       «volt_count» = s .«volt_count»;
       «amp_count» = s .«amp_count»;
     }
@@ -43,6 +44,7 @@ withPc x s =
       feve = s .feve;
       sena = s .sena;
       seve = s .seve;
+      «cv_seen» = s .«cv_seen»;
       «volt_count» = s .«volt_count»;
       «amp_count» = s .«amp_count»;
     }
@@ -65,6 +67,7 @@ withOvp x s =
       feve = s .feve;
       sena = s .sena;
       seve = s .seve;
+      «cv_seen» = s .«cv_seen»;
       «volt_count» = s .«volt_count»;
       «amp_count» = s .«amp_count»;
     }
@@ -87,6 +90,7 @@ withUvl x s =
       feve = s .feve;
       sena = s .sena;
       seve = s .seve;
+      «cv_seen» = s .«cv_seen»;
       «volt_count» = s .«volt_count»;
       «amp_count» = s .«amp_count»;
     }
@@ -109,6 +113,7 @@ withWant x s =
       feve = s .feve;
       sena = s .sena;
       seve = s .seve;
+      «cv_seen» = s .«cv_seen»;
       «volt_count» = s .«volt_count»;
       «amp_count» = s .«amp_count»;
     }
@@ -131,6 +136,7 @@ withArmed x s =
       feve = s .feve;
       sena = s .sena;
       seve = s .seve;
+      «cv_seen» = s .«cv_seen»;
       «volt_count» = s .«volt_count»;
       «amp_count» = s .«amp_count»;
     }
@@ -153,6 +159,7 @@ withAst x s =
       feve = s .feve;
       sena = s .sena;
       seve = s .seve;
+      «cv_seen» = s .«cv_seen»;
       «volt_count» = s .«volt_count»;
       «amp_count» = s .«amp_count»;
     }
@@ -175,6 +182,7 @@ withMode x s =
       feve = s .feve;
       sena = s .sena;
       seve = s .seve;
+      «cv_seen» = s .«cv_seen»;
       «volt_count» = s .«volt_count»;
       «amp_count» = s .«amp_count»;
     }
@@ -197,6 +205,7 @@ withLines x s =
       feve = s .feve;
       sena = s .sena;
       seve = s .seve;
+      «cv_seen» = s .«cv_seen»;
       «volt_count» = s .«volt_count»;
       «amp_count» = s .«amp_count»;
     }
@@ -219,6 +228,7 @@ withFoldTrip x s =
       feve = s .feve;
       sena = s .sena;
       seve = s .seve;
+      «cv_seen» = s .«cv_seen»;
       «volt_count» = s .«volt_count»;
       «amp_count» = s .«amp_count»;
     }
@@ -241,6 +251,7 @@ withOvpTrip x s =
       feve = s .feve;
       sena = s .sena;
       seve = s .seve;
+      «cv_seen» = s .«cv_seen»;
       «volt_count» = s .«volt_count»;
       «amp_count» = s .«amp_count»;
     }
@@ -263,6 +274,7 @@ withFena x s =
       feve = s .feve;
       sena = s .sena;
       seve = s .seve;
+      «cv_seen» = s .«cv_seen»;
       «volt_count» = s .«volt_count»;
       «amp_count» = s .«amp_count»;
     }
@@ -285,6 +297,7 @@ withFeve x s =
       feve = x;
       sena = s .sena;
       seve = s .seve;
+      «cv_seen» = s .«cv_seen»;
       «volt_count» = s .«volt_count»;
       «amp_count» = s .«amp_count»;
     }
@@ -307,6 +320,7 @@ withSena x s =
       feve = s .feve;
       sena = x;
       seve = s .seve;
+      «cv_seen» = s .«cv_seen»;
       «volt_count» = s .«volt_count»;
       «amp_count» = s .«amp_count»;
     }
@@ -329,6 +343,30 @@ withSeve x s =
       feve = s .feve;
       sena = s .sena;
       seve = x;
+      «cv_seen» = s .«cv_seen»;
+      «volt_count» = s .«volt_count»;
+      «amp_count» = s .«amp_count»;
+    }
+
+abbrev pub withCvSeen : Bool → Supply → Supply
+withCvSeen x s =
+    record {
+      pv = s .pv;
+      pc = s .pc;
+      ovp = s .ovp;
+      uvl = s .uvl;
+      want = s .want;
+      armed = s .armed;
+      ast = s .ast;
+      mode = s .mode;
+      lines = s .lines;
+      «fold_trip» = s .«fold_trip»;
+      «ovp_trip» = s .«ovp_trip»;
+      fena = s .fena;
+      feve = s .feve;
+      sena = s .sena;
+      seve = s .seve;
+      «cv_seen» = x;
       «volt_count» = s .«volt_count»;
       «amp_count» = s .«amp_count»;
     }
@@ -351,6 +389,7 @@ withVoltCount x s =
       feve = s .feve;
       sena = s .sena;
       seve = s .seve;
+      «cv_seen» = s .«cv_seen»;
       «volt_count» = x;
       «amp_count» = s .«amp_count»;
     }
@@ -373,6 +412,7 @@ withAmpCount x s =
       feve = s .feve;
       sena = s .sena;
       seve = s .seve;
+      «cv_seen» = s .«cv_seen»;
       «volt_count» = s .«volt_count»;
       «amp_count» = x;
     }

@@ -6,9 +6,11 @@ ghost use lib.Dec.{leb};
 ghost use Rattle.supply.specs.State.{fresh};
 ghost use Rattle.supply.specs.Flt.{fltOf, onOf, linesClear, inLimit};
 ghost use Rattle.supply.specs.Stat.{statOf};
+ghost use Rattle.supply.specs.Memory.{cvForgotten};
 ghost use Rattle.supply.specs.Registers.{feveGained, seveGained, settled};
 
 // The whole state of a supply. Figures are in ticks of 0.1 mV and in mA; mode is 0 local, 1 remote, 2 locked out.
+// cv_seen is the CV memory: whether a sample was judged CV since the output came on.
 #[repr(C)]
 pub struct Supply {
     pub pv: u32,
@@ -26,6 +28,7 @@ pub struct Supply {
     pub feve: u8,
     pub sena: u8,
     pub seve: u8,
+    pub cv_seen: bool,
     pub volt_count: u16,
     pub amp_count: u16,
 }
@@ -214,6 +217,16 @@ pub fn settle(model: u8, before: Supply, after: Supply) -> Supply
     gain_seve(model, before, gained)
 }
 
+// Ends an act: with the output off, a supply forgets that a sample was judged CV.
+pub fn forget_cv(s: Supply) -> Supply
+    ensures { λ r. ⌜ r ≡ cvForgotten s ⌝ }
+{
+    let on = is_on(s);
+    let mut t = s;
+    t.cv_seen = on & s.cv_seen;
+    t
+}
+
 // A supply as fitted.
 pub fn fresh_supply(model: u8) -> Supply
     ensures { λ r. ⌜ r ≡ fresh model ⌝ }
@@ -235,6 +248,7 @@ pub fn fresh_supply(model: u8) -> Supply
         feve: 0,
         sena: 0,
         seve: 0,
+        cv_seen: false,
         volt_count: 0,
         amp_count: 0,
     }

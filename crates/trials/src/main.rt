@@ -1,5 +1,5 @@
 // Layer checks.
-// Tries the supply on a table of cases from standard input: one line of 46 numbers for each case, with the expected
+// Tries the supply on a table of cases from standard input: one line of 48 numbers for each case, with the expected
 // outcome. A second model of the supply, which shares nothing with this one, writes the table (tests/src/trial.rs says
 // what each number is). Prints the lines of the first wrong cases, then how many cases there were and how many were
 // wrong.

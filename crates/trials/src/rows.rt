@@ -1,4 +1,4 @@
-// A case of the supply as a row of 46 numbers: the state before, an act, and what is expected of it. Makes the state
+// A case of the supply as a row of 48 numbers: the state before, an act, and what is expected of it. Makes the state
 // and the act from the numbers, and decides whether the supply does what the row expects. tests/src/trial.rs says what
 // each number is.
 use supply::Act;
@@ -12,17 +12,17 @@ use supply::Target;
 use supply::Word;
 
 // How many numbers a row has, and where its parts begin. The model is the first number.
-pub const CELLS: usize = 46;
+pub const CELLS: usize = 48;
 
 const BEFORE: u8 = 1;
 
-const ACT: u8 = 18;
+const ACT: u8 = 19;
 
-const CODE: u8 = 21;
+const CODE: u8 = 22;
 
-const AFTER: u8 = 22;
+const AFTER: u8 = 23;
 
-const ANSWER: u8 = 39;
+const ANSWER: u8 = 41;
 
 fn target_of(n: u64) -> Target {
     match n {
@@ -153,8 +153,9 @@ fn supply_at(row: &[u64; CELLS], at: u8) -> Supply {
         feve: byte_of(cell(row, at, 12)),
         sena: byte_of(cell(row, at, 13)),
         seve: byte_of(cell(row, at, 14)),
-        volt_count: count_of(cell(row, at, 15)),
-        amp_count: count_of(cell(row, at, 16)),
+        cv_seen: cell(row, at, 15) == 1,
+        volt_count: count_of(cell(row, at, 16)),
+        amp_count: count_of(cell(row, at, 17)),
     }
 }
 
@@ -172,6 +173,7 @@ fn switches_agree(row: &[u64; CELLS], at: u8, s: Supply) -> bool {
         & (cell(row, at, 7) == s.mode as u64)
         & (cell(row, at, 9) == s.fold_trip as u64)
         & (cell(row, at, 10) == s.ovp_trip as u64)
+        & (cell(row, at, 15) == s.cv_seen as u64)
 }
 
 fn faults_agree(row: &[u64; CELLS], at: u8, s: Supply) -> bool {
@@ -185,7 +187,7 @@ fn status_agrees(row: &[u64; CELLS], at: u8, s: Supply) -> bool {
 }
 
 fn counts_agree(row: &[u64; CELLS], at: u8, s: Supply) -> bool {
-    (cell(row, at, 15) == s.volt_count as u64) & (cell(row, at, 16) == s.amp_count as u64)
+    (cell(row, at, 16) == s.volt_count as u64) & (cell(row, at, 17) == s.amp_count as u64)
 }
 
 // Whether a supply has, in every part, the state that begins at a cell.

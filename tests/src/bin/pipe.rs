@@ -55,6 +55,8 @@ const ALL_TAGS: &str = r#"
     line OUT 0
     line FLT?
     text "FEVE?\rOUT 1\rFLT?\r"
+    sample 6 0 65535         # a cell that charges
+    sample 6 0 4999          # below PC
     sample 6 0 65535         # the FOLD trip
     line FLT?
     line FLD 0

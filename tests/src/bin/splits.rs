@@ -36,6 +36,7 @@ const BODY: &str = r#"
     text "FLT?\rOUT 0\rFLT?\r"
     text "OUT 1\rFEVE?\r"
     text "SEVE?\rSTT?\r"
+    sample 6 0 0
     sample 6 0 65535
     text "FLT?\rMC?"
     line $CF

@@ -76,7 +76,7 @@ fn forge(draw: &mut Draw) -> Rack {
 
 fn forge_supply(draw: &mut Draw) -> Supply {
     let mut truth = || draw.below(2) as u8;
-    let [want, armed, ast, fold_trip, ovp_trip] = std::array::from_fn(|_| truth());
+    let [want, armed, ast, fold_trip, ovp_trip, cv_seen] = std::array::from_fn(|_| truth());
     let [pv, pc, ovp, uvl] = std::array::from_fn(|_| draw.any() as u32);
     let [mode, lines, fena, feve, sena, seve] = std::array::from_fn(|_| draw.any() as u8);
     Supply {
@@ -95,6 +95,7 @@ fn forge_supply(draw: &mut Draw) -> Supply {
         feve,
         sena,
         seve,
+        cv_seen,
         volt_count: draw.any() as u16,
         amp_count: draw.any() as u16,
     }

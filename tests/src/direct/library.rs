@@ -27,6 +27,7 @@ pub struct Supply {
     pub feve: u8,
     pub sena: u8,
     pub seve: u8,
+    pub cv_seen: u8,
     pub volt_count: u16,
     pub amp_count: u16,
 }
@@ -69,7 +70,8 @@ const _: () = assert!(size_of::<Supply>() == 32 && align_of::<Supply>() == 4);
 const _: () = assert!(size_of::<Line>() == 80 && align_of::<Line>() == 8);
 const _: () = assert!(size_of::<Rack>() == 1104 && align_of::<Rack>() == 8);
 const _: () = assert!(size_of::<Fitted>() == 1112 && size_of::<Done>() == 24);
-const _: () = assert!(offset_of!(Supply, volt_count) == 28 && offset_of!(Rack, models) == 1072);
+const _: () = assert!(offset_of!(Supply, cv_seen) == 27 && offset_of!(Supply, volt_count) == 28);
+const _: () = assert!(offset_of!(Rack, models) == 1072);
 
 /// Anything that makes racks and works calls on them.
 pub trait Controller {

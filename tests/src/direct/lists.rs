@@ -39,7 +39,9 @@ const GLOBALS: &str = r#"
     text "FLT?\rFEVE?\r"
     line ADR 30
     text "FLD 1\rFLT?\r"
-    sample 30 0 65535
+    sample 30 0 65535        # it may charge
+    sample 30 0 0
+    sample 30 0 65535        # the FOLD trip
     line GOUT 0
     text FLT?
     key 12 LOCAL

@@ -9,7 +9,7 @@ use crate::supply::{Mode, Supply as Plain};
 
 use super::library::{Rack, Supply};
 
-const FIELDS: [&str; 17] = [
+const FIELDS: [&str; 18] = [
     "PV",
     "PC",
     "OVP",
@@ -25,6 +25,7 @@ const FIELDS: [&str; 17] = [
     "FEVE",
     "SENA",
     "SEVE",
+    "CV memory",
     "volt count",
     "ampere count",
 ];
@@ -104,6 +105,7 @@ fn figures(supply: &Supply) -> [u64; FIELDS.len()] {
         supply.feve.into(),
         supply.sena.into(),
         supply.seve.into(),
+        supply.cv_seen.into(),
         supply.volt_count.into(),
         supply.amp_count.into(),
     ]
@@ -126,6 +128,7 @@ fn plain_figures(plain: &Plain) -> [u64; FIELDS.len()] {
         plain.feve.into(),
         plain.sena.into(),
         plain.seve.into(),
+        plain.cv_seen.into(),
         plain.volt_count.into(),
         plain.ampere_count.into(),
     ]

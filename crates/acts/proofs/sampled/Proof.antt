@@ -1,5 +1,6 @@
 -- `sampled` meets its contract.
-use mathlib.Core.Path.{sym, _∙_}
+use mathlib.Core.Path.{sym, ap, _∙_}
+use Rattle.supply.specs.Memory.{cvForgotten}
 use Rattle.supply.specs.Registers.{settled}
 use Rattle.supply.proofs.Gains.{seve-disabled}
 use Rattle.acts.specs.Acts.{codeOf, acted, clearingAct, performed}
@@ -13,10 +14,15 @@ sampled-at-requires c κs = search needs
 gain-feve-requires : tie.Need-gain-feve-requires
 gain-feve-requires c κs = search needs
 
+forget-cv-requires : tie.Need-forget-cv-requires
+forget-cv-requires c κs = search needs
+
 returns : tie.Need-returns
 unfolding performed codeOf acted clearingAct settled
 returns c =
-    rw (c .before .sampled-at .ensures) at (c .gain-feve .ensures) ∙ sym (seve-disabled _ _ _ (c .before .before .if1 .taken))
+    c .forget-cv .ensures
+    ∙ ap cvForgotten
+    (rw (c .before .before .sampled-at .ensures) at (c .before .gain-feve .ensures) ∙ sym (seve-disabled _ _ _ (c .before .before .before .if1 .taken)))
 
 sample-settled-requires : tie.Need-sample-settled-requires
 sample-settled-requires c κs = search needs
@@ -25,4 +31,6 @@ returns-2 : tie.Need-returns-2
 returns-2 c = c .sample-settled .ensures
 
 pub sampled-spec : {M : Type 1} → statement M
-sampled-spec = tie.close (tie.spec sampled-at-requires gain-feve-requires returns sample-settled-requires returns-2)
+sampled-spec =
+    tie.close
+    (tie.spec sampled-at-requires gain-feve-requires forget-cv-requires returns sample-settled-requires returns-2)
