@@ -1,7 +1,7 @@
 -- The fresh supply is coherent, and each checked act leaves a coherent supply coherent.
 use Prim.Native.Nat.{ℕ, _≤_}
 use mathlib.Core.Path.{_≡_, refl, _∙_}
-use mathlib.Core.Bool.{Bool, true, false, not, _&&_, _||_, false≢true, and-eq-true-iff, and-false}
+use mathlib.Core.Bool.{Bool, true, false, not, _||_, false≢true, and-eq-true-iff, and-false}
 use native.Mathlib.Omega.{arith}
 use lib.Bits.{bitAnd}
 use lib.Dec.{eqb}
@@ -19,18 +19,19 @@ use Rattle.supply.specs.declared.Order.{Order}
 use Rattle.supply.specs.declared.Order.the-variants.{Set, Ovm, Out, Fld, Ast, Rmt, Fena, Sena, Cls, Rst}
 use Rattle.supply.specs.declared.Act.{Act}
 use Rattle.supply.specs.declared.Act.the-variants.{Lines, Sample, Press, Turn, Obey, Ask, Nothing}
-use Rattle.supply.specs.With.{withFeve, withSeve, withWant, withArmed, withMode, withCounts}
+use Rattle.supply.specs.With.{withFeve, withSeve, withWant, withArmed, withMode}
 use Rattle.supply.specs.State.{fresh}
-use Rattle.supply.specs.Flt.{onOf, linesClear, inLimit}
+use Rattle.supply.specs.Flt.{onOf, linesClear}
 use Rattle.supply.specs.Memory.{cvForgotten}
 use Rattle.supply.specs.Registers.{feveGained, seveGained, settled}
 use Rattle.settings.specs.Settings.{withSetting, stepped}
-use Rattle.samples.specs.Samples.{reachesOvp, tripsFold, sampled}
+use Rattle.samples.specs.Samples.{tripsFold, sampled}
 use Rattle.events.specs.Events.{falls, linesChanged, turnedOn, disarmed, pressed, turned}
 use Rattle.events.proofs.Cases.{lines-law, disarm-law}
 use Rattle.orders.specs.Orders.{remote, remoteBy, outDone, fldDone, senaBits, reset, ordered}
 use Rattle.acts.specs.Acts.{codeOf, clearingAct, cleared, acted, closed, performed}
 use Rattle.acts.proofs.Clearing.{by-query}
+use Rattle.guarantees.proofs.Trips.{fold-needs}
 use Rattle.guarantees.specs.Coherent.{Listed, Enabling, Agreeing, Coherent, CheckedOrder, Checked}
 
 -- without a FOLD trip, ARMED has no condition to meet
@@ -80,17 +81,10 @@ module _ (s : Supply) (h : Coherent s) where
   sample-coherent : (m v a : ℕ) → Coherent (sampled m s v a)
   unfolding sampled
   sample-coherent m v a =
-      let limited : Bool = inLimit m (withCounts v a s) && (s .armed && s .«cv_seen») in
       record {
         mode-known = h .mode-known;
         lines-listed = h .lines-listed;
-        fold-armed = either (tripsFold m s v a) (s .«fold_trip») (s .armed)
-            (λ e.
-            let under = and-eq-true-iff (onOf s) (not (reachesOvp m s v) && limited) .0 e .1 in
-            let at-limit = and-eq-true-iff (not (reachesOvp m s v)) limited .0 under .1 in
-            let ready = and-eq-true-iff (inLimit m (withCounts v a s)) (s .armed && s .«cv_seen») .0 at-limit .1 in
-            and-eq-true-iff (s .armed) (s .«cv_seen») .0 ready .0)
-            (h .fold-armed);
+        fold-armed = either (tripsFold m s v a) (s .«fold_trip») (s .armed) (λ e. fold-needs m s v a e .armed) (h .fold-armed);
         sena-enabling = h .sena-enabling;
       }
 

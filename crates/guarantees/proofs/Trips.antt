@@ -268,7 +268,7 @@ all-five : {a b c d e : Bool} → a ≡ true → b ≡ false → c ≡ true → 
     → (a && (not b && (c && (d && e)))) ≡ true
 all-five p q r t u = rw (p, q, r, t, u) refl
 
-fold-needs : (m : ℕ) (s : Supply) (v a : ℕ) → tripsFold m s v a ≡ true → FoldNeeds m s v a
+pub fold-needs : (m : ℕ) (s : Supply) (v a : ℕ) → tripsFold m s v a ≡ true → FoldNeeds m s v a
 unfolding inLimit
 fold-needs m s v a e =
     let one = and-eq-true-iff (onOf s) _ .0 e in
