@@ -1,5 +1,5 @@
-//! An independent model of the rack controller, used to check the real one from outside.
-//! It is written from the papers alone and shares no code with the controller.
+//! An independent model of the rack controller, and of the lead adviser, used to check the real ones
+//! from outside. It is written from the papers alone and shares no code with them.
 
 pub mod cases;
 pub mod compare;
@@ -9,6 +9,7 @@ pub mod documents;
 pub mod faults;
 pub mod foldback;
 pub mod generate;
+pub mod leads;
 pub mod line;
 pub mod live;
 pub mod messages;
@@ -17,6 +18,7 @@ pub mod program;
 pub mod rack;
 pub mod script;
 pub mod share;
+pub mod shared_object;
 pub mod supply;
 pub mod system;
 pub mod table;

@@ -6,7 +6,7 @@ use rack_tests::documents::{
     all, anchors, blocks, has_word, links, quoted, read, rows, section, sections,
     session_of_reference, top,
 };
-use rack_tests::{program, script};
+use rack_tests::{leads, program, script};
 use std::collections::{BTreeMap, BTreeSet};
 use std::fs;
 use std::path::{Path, PathBuf};
@@ -272,6 +272,15 @@ fn the_page_has_the_limits_of_every_model() {
         assert_eq!(100 * volts(3), 105 * limits[0], "{row:?}");
         assert_eq!(100 * amperes(4), 105 * limits[1], "{row:?}");
     }
+}
+
+#[test]
+fn the_page_has_every_gauge() {
+    let number = |cell: &String| cell.parse::<u64>().expect("a number");
+    let page = rows(&section(&read("docs/LEADS.md"), 2, "What it answers"));
+    let table: Vec<(u64, u64)> =
+        page.iter().map(|row| (number(&row[0]), number(&row[1]))).collect();
+    assert_eq!(table, leads::TABLE);
 }
 
 /// The lines of a section's examples with their replies.

@@ -1,12 +1,12 @@
 //! The library `capi` as a program in C or Rust sees it: its structs declared once more, and its
 //! two functions, taken from a shared object.
 
-use std::ffi::{c_char, c_int, c_void, CStr, CString};
+use std::ffi::c_void;
 use std::mem::{align_of, offset_of, size_of, transmute};
-use std::os::unix::ffi::OsStrExt;
 
 use crate::line::LINE_ROOM;
 use crate::rack::SLOTS;
+use crate::shared_object::SharedObject;
 
 /// A supply; a bool is a byte here, so that any other value is noticed.
 #[repr(C)]
@@ -79,14 +79,6 @@ pub trait Controller {
     fn call(&self, rack: &mut Rack, bytes: &[u8], reply: &mut [u8]) -> Done;
 }
 
-extern "C" {
-    fn dlopen(path: *const c_char, flags: c_int) -> *mut c_void;
-    fn dlsym(object: *mut c_void, name: *const c_char) -> *mut c_void;
-    fn dlerror() -> *const c_char;
-}
-
-const ALL_AT_ONCE: c_int = 2;
-
 type Fit = unsafe extern "C" fn(*const u8, usize) -> Fitted;
 type Call = unsafe extern "C" fn(*mut Rack, *const u8, usize, *mut u8, usize) -> Done;
 
@@ -98,37 +90,13 @@ pub struct Library {
 
 impl Library {
     pub fn open(path: &str) -> Result<Library, String> {
-        // Without a folder in its name, it would be looked for among the system's libraries.
-        let whole = std::fs::canonicalize(path).map_err(|error| format!("{path}: {error}"))?;
-        let name = CString::new(whole.as_os_str().as_bytes()).map_err(|error| error.to_string())?;
-        // SAFETY: the name ends with NUL; the object is never closed.
-        let object = unsafe { dlopen(name.as_ptr(), ALL_AT_ONCE) };
-        if object.is_null() {
-            return Err(complaint());
-        }
-        let (fit, call) = (symbol(object, c"pu_fit")?, symbol(object, c"pu_call")?);
+        let object = SharedObject::open(path)?;
+        let (fit, call) = (object.symbol(c"pu_fit")?, object.symbol(c"pu_call")?);
         // SAFETY: crates/capi/src/lib.rt exports them with these signatures, slices as pointer and count.
         let (fit, call) =
             unsafe { (transmute::<*mut c_void, Fit>(fit), transmute::<*mut c_void, Call>(call)) };
         Ok(Library { fit, call })
     }
-}
-
-fn symbol(object: *mut c_void, name: &CStr) -> Result<*mut c_void, String> {
-    // SAFETY: an open object and a name that ends with NUL.
-    let found = unsafe { dlsym(object, name.as_ptr()) };
-    (!found.is_null()).then_some(found).ok_or_else(complaint)
-}
-
-/// What the loader says about the last failure.
-fn complaint() -> String {
-    // SAFETY: the loader returns a text of its own, or null.
-    let text = unsafe { dlerror() };
-    if text.is_null() {
-        return "the loader gives no reason".into();
-    }
-    // SAFETY: it is not null, and ends with NUL.
-    unsafe { CStr::from_ptr(text) }.to_string_lossy().into_owned()
 }
 
 impl Controller for Library {
