@@ -69,9 +69,13 @@ module _ (ma mm : ℕ) where
   unfolding chosen
   chosen-by g b e = sym (ap (λ (t : Bool). pick t (Gauge g) NoneSuits) e)
 
+  pub within-suits : (x : Row) → listingOf (x .gauge) ≡ Listed (x .resistance) → T (withinLimit ma (x .resistance) mm) → T (suits ma mm (x .gauge))
+  unfolding suits suitsBy
+  within-suits x e w = subst (λ (l : Listing). T (suitsBy l ma mm)) (sym e) w
+
   pub row-suits : (i : ℕ) → i < 8 → (x : Row) → x ≡ rowAt i → withinLimit ma (x .resistance) mm ≡ true → Suitable ma mm (x .gauge)
-  unfolding Suitable suits suitsBy
-  row-suits i h x r w e = subst (λ (l : Listing). T (suitsBy l ma mm)) (sym (own-row i h x r)) (subst T (sym w) tt)
+  unfolding Suitable
+  row-suits i h x r w e = within-suits x (own-row i h x r) (subst T (sym w) tt)
 
   -- an answer without a gauge names none
   isGauge : Advice → Bool

@@ -3,7 +3,7 @@ use mathlib.Core.Path.{_≡_, refl, sym, ap, subst}
 use mathlib.Core.Bool.{Bool, true, false, not, _&&_, _||_, false≢true}
 use mathlib.Core.List.{List, [], _∷_, map}
 use Prim.Native.Nat.{ℕ, _*_, _<_, _≤_}
-use native.Mathlib.Nat.{mul-pos, mul-comm, le-trans, le-of-eq, le-of-lt}
+use native.Mathlib.Nat.{mul-comm, le-trans, le-of-eq, le-of-lt}
 use lib.Dec.{T, eqb, leb→le, le→leb, nleb→lt, lit<, lit≤}
 use lib.Ieee.{Float, nan, binary64, le, round, toBits}
 use lib.Ieee.Order.{round-mono}
@@ -22,8 +22,8 @@ use Rattle.leads.specs.Longest.{leadMetres, longestBy, longestOf, leadNu
 use Rattle.leads.specs.Advice.{suitsBy, suits, someIn, someSuits, chosen, adviceOf, gaugeNumbers}
 use Rattle.leads.specs.Leads.{has, Columns, Tests, Refusals, MetresNearest, Agree}
 use Rattle.leads.specs.Worked.{metreBits, Worked}
-use Rattle.leads.proofs.Answers.{range, range-pos}
-use Rattle.leads.proofs.Rows.{Fine, fine, own-rows, Passing, some-row}
+use Rattle.leads.proofs.Answers.{range, product-pos, within-suits}
+use Rattle.leads.proofs.Rows.{own-rows, Passing, some-row}
 
 -- ---- the table by its columns
 absent : (s : List Row) (g : ℕ) → T (not (has (map (λ (x : Row). x .gauge) s) g))
@@ -67,11 +67,11 @@ advice-code true false g = refl
 advice-code false u g = refl
 
 one-suits : (ma mm : ℕ) → T (someSuits ma mm) → (h : ℕ) × T (suits ma mm h)
-unfolding someSuits someIn suits suitsBy
+unfolding someSuits someIn
 one-suits ma mm t = go (some-row (λ (x : Row). withinLimit ma (x .resistance) mm) table own-rows t)
   where
     go : Passing (λ (x : Row). withinLimit ma (x .resistance) mm) → (h : ℕ) × T (suits ma mm h)
-    go (x, w, e) = (x .gauge, subst (λ (l : Listing). T (suitsBy l ma mm)) (sym e) w)
+    go (x, w, e) = (x .gauge, within-suits ma mm x e w)
 
 or-left : (w r : Bool) → T w → T (pick w true r)
 or-left true r t = tt
@@ -120,18 +120,18 @@ metresOf CurrentOutside = nan
 abbrev Answered : Listing → ℕ → Float → Type 0
 Answered l ma x = (r : ℕ) × (l ≡ Listed r) × (0 < ma * r) × (x ≡ leadMetres ma r)
 
-answered : (l : Listing) (ma : ℕ) (x : Float) → Fine l → longestBy l ma ≡ Metres x → Answered l ma x
+answered : (g ma : ℕ) (x : Float) (l : Listing) → listingOf g ≡ l → longestBy l ma ≡ Metres x → Answered l ma x
 unfolding longestBy isMetres metresOf
-answered Unlisted ma x f e = absurd (false≢true (ap isMetres e))
-answered (Listed r) ma x f e = go (currentIn ma) refl e
+answered g ma x Unlisted s e = absurd (false≢true (ap isMetres e))
+answered g ma x (Listed r) s e = go (currentIn ma) refl e
   where
     go : (t : Bool) → currentIn ma ≡ t → pick t (Metres (leadMetres ma r)) CurrentOutside ≡ Metres x → Answered (Listed r) ma x
-    go true c e = (r, refl, mul-pos (range-pos 150000 ma c) (f .0), sym (ap metresOf e))
+    go true c e = (r, refl, product-pos g ma r s c, sym (ap metresOf e))
     go false c e = absurd (false≢true (ap isMetres e))
 
 pub metres-nearest : MetresNearest
 unfolding longestOf leadMetres
-metres-nearest g ma x e = go (answered (listingOf g) ma x (fine g) e)
+metres-nearest g ma x e = go (answered g ma x (listingOf g) refl e)
   where
     go : Answered (listingOf g) ma x → (r : ℕ) × (listingOf g ≡ Listed r) × NearestFloat x 10000000000 (ma * r)
     go (r, l, p, f) = (r, l, subst (λ (y : Float). NearestFloat y 10000000000 (ma * r)) (sym f) (rounded-nearest 10000000000 (ma * r) (lit≤ tt) p))
@@ -164,8 +164,8 @@ pub agree : Agree
 unfolding longestOf suits
 agree =
     record {
-      reaches = λ ma mm g x e s. reaches-by (listingOf g) ma mm x (answered (listingOf g) ma x (fine g) e) s;
-      falls-short = λ ma mm g x e s. falls-short-by (listingOf g) ma mm x (answered (listingOf g) ma x (fine g) e) s;
+      reaches = λ ma mm g x e s. reaches-by (listingOf g) ma mm x (answered g ma x (listingOf g) refl e) s;
+      falls-short = λ ma mm g x e s. falls-short-by (listingOf g) ma mm x (answered g ma x (listingOf g) refl e) s;
     }
 
 pub worked : (g : ℕ) → Worked g

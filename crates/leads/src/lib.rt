@@ -48,9 +48,10 @@ const TABLE: [Row; 8] = [
     },
 ];
 
-// The greatest current in mA, and the greatest length in mm.
+// The greatest current, in mA.
 const MOST_MA: u64 = 150_000;
 
+// The greatest length, in mm.
 const MOST_MM: u64 = 1_000_000;
 
 // What the table has for a gauge: its resistance, or nothing.
