@@ -11,6 +11,7 @@ pub mod library;
 pub mod lists;
 pub mod outcome;
 pub mod refusals;
+pub mod stand_in;
 
 use bench::Tally;
 use library::Controller;

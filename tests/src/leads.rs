@@ -4,9 +4,10 @@
 
 pub mod library;
 pub mod questions;
-pub mod rounding;
 
 use std::ops::RangeInclusive;
+
+use crate::rounding;
 
 use library::{Adviser, GaugeFor, LongestLead};
 

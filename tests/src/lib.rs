@@ -1,5 +1,5 @@
-//! An independent model of the rack controller, and of the lead adviser, used to check the real ones
-//! from outside. It is written from the papers alone and shares no code with them.
+//! An independent model of the rack controller, of the cell resistance and of the lead adviser, used
+//! to check the real ones from outside. It is written from the papers alone and shares no code with them.
 
 pub mod cases;
 pub mod compare;
@@ -16,6 +16,8 @@ pub mod messages;
 pub mod outside;
 pub mod program;
 pub mod rack;
+pub mod resistance;
+pub mod rounding;
 pub mod script;
 pub mod share;
 pub mod shared_object;

@@ -8,11 +8,11 @@ use std::ops::RangeInclusive;
 
 use rack_tests::leads::library::{Adviser, GaugeFor, Library, LongestLead};
 use rack_tests::leads::questions::{beside_limit, checks};
-use rack_tests::leads::rounding::is_nearest;
 use rack_tests::leads::{
     faults, figure, gauges_for, longest_lead, product, Check, Question, CURRENTS, LENGTHS,
     MOST_BY_METRES, MOST_BY_MM, NONE_SERVES, NOT_LISTED, OUT_OF_RANGE, TABLE,
 };
+use rack_tests::rounding::is_nearest;
 
 // ---- the model as an adviser ----
 

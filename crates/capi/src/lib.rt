@@ -1,10 +1,14 @@
 // Layer outside.
-// `fit` and `call` for programs in C or Rust: the exported functions, and nothing else. The rack stays in its owner's
-// memory.
+// `fit`, `call` and `cell_at` for programs in C or Rust: the exported functions, and nothing else. The rack stays in
+// its owner's memory.
+ghost use mathlib.Core.Path.{_≡_};
 ghost use Rattle.fitting.specs.Fit.{FitDoes};
 ghost use Rattle.calls.specs.Calls.{CallDoes};
+ghost use Rattle.resistance.specs.Cells.{cellAt};
+ghost use Rattle.resistance.specs.Numbers.{cellNumbers};
 ghost use Rattle.capi.specs.Lent.{answerWith};
 use fitting::Fitted;
+use resistance::CellNumbers;
 use slots::Rack;
 
 // What a call returns besides the rack: code 0, the bytes used and the length of the reply; or the number of a refusal,
@@ -39,4 +43,12 @@ pub extern "C" fn pu_call(rack: &mut Rack, bytes: &[u8], reply: &mut [u8]) -> Do
         used: a.used,
         length: a.length,
     }
+}
+
+// The resistance of the cell at an address, and the readings of its supply; or code 6. The lent rack is only read.
+#[no_mangle]
+pub extern "C" fn pu_resistance(rack: &Rack, address: u64) -> CellNumbers
+    ensures { λ n. ⌜ n ≡ cellNumbers (cellAt (now (rack .entry)) address) ⌝ }
+{
+    resistance::cell_numbers(*rack, address)
 }

@@ -1,6 +1,6 @@
 // Layer outside.
-// Works the controller's input with the two functions that customers call: `fit` takes the fitting list, and each field
-// is one `call` with the shortest reply buffer allowed. It prints what the controller prints. It tries each field first
+// Works the controller's input with functions that customers call: `fit` takes the fitting list, and each field is one
+// `call` with the shortest reply buffer allowed. It prints what the controller prints. It tries each field first
 // with a buffer that is one byte too short: if that is not refused with 1, or leaves a trace, it prints `wrong`, then
 // `refused 1`, and ends.
 ghost use mathlib.Core.Path.{_≡_};

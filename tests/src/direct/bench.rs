@@ -82,6 +82,10 @@ impl<'a> Bench<'a> {
         &self.model
     }
 
+    pub fn rack(&self) -> &Rack {
+        &self.rack
+    }
+
     /// One call on both racks, with everything compared; returns the code. Memory after the lent
     /// bytes must make no difference.
     pub fn call(&mut self, bytes: &[u8], behind: &[u8], room: usize) -> Result<u8, String> {

@@ -57,7 +57,7 @@ pub fn fitted_alike(rack: &Rack) -> Model {
 }
 
 /// A bool is true or false here too: any other byte would not be a value of the language.
-fn forge(draw: &mut Draw) -> Rack {
+pub fn forge(draw: &mut Draw) -> Rack {
     let counts = [0, 1, LINE_ROOM - 1, LINE_ROOM, LINE_ROOM + 1, 1000, usize::MAX];
     let mut line = Line {
         kept: [0; LINE_ROOM],

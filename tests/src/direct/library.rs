@@ -1,5 +1,5 @@
 //! The library `capi` as a program in C or Rust sees it: its structs declared once more, and its
-//! two functions, taken from a shared object.
+//! functions `pu_fit` and `pu_call`, taken from a shared object.
 
 use std::ffi::c_void;
 use std::mem::{align_of, offset_of, size_of, transmute};
@@ -82,7 +82,7 @@ pub trait Controller {
 type Fit = unsafe extern "C" fn(*const u8, usize) -> Fitted;
 type Call = unsafe extern "C" fn(*mut Rack, *const u8, usize, *mut u8, usize) -> Done;
 
-/// The two functions of a shared object made from target/staticlib/libcapi.a.
+/// Both functions, of a shared object made from target/staticlib/libcapi.a.
 pub struct Library {
     fit: Fit,
     call: Call,
