@@ -1,4 +1,4 @@
--- When each answer is given, and that its figures are the nearest floats.
+-- When each answer is given, that its figures are the nearest floats, and its numbers.
 use Prim.Native.Nat.{ℕ, _*_, _≤_, _<_, _^_}
 use mathlib.Core.Path.{_≡_, refl, sym, ap}
 use mathlib.Core.Logic.{⊎-elim}

@@ -1,4 +1,5 @@
--- EACH ANSWER IN PLAIN TERMS: when it is given, and that no float is nearer to the exact quotient than its figures.
+-- EACH ANSWER IN PLAIN TERMS: when it is given, that no float is nearer to the exact quotient than its figures, and the
+-- numbers that it is told as.
 use Prim.Native.Nat.{ℕ, _*_, _≤_, _<_}
 use mathlib.Core.Path.{_≡_}
 use mathlib.Core.Logic.{_⊎_}
