@@ -1,6 +1,8 @@
 // Layer supply.
 // The acts of a supply, in three stages: what the act does, what FEVE and SEVE gain, and how the act closes. Every act
 // that is not refused closes with `forget_cv`.
+#![tactic(auto)]
+
 ghost use Rattle.std.specs.Prelude.{◌≡◌};
 ghost use Rattle.supply.specs.Memory.{cv_forgotten};
 ghost use Rattle.supply.specs.Registers.{settled};
@@ -24,6 +26,7 @@ fn clear_registers(s: Supply, test: bool) -> Supply
 }
 
 // What a query itself changes: FEVE? and SEVE? clear their registers.
+#[tactic(auto, using(crate::proofs::Clearing::query_keeps), unfolding(crate::specs::Acts::after_query))]
 fn after_query(s: Supply, q: Query) -> Supply
     ensures { result ≡ after_query q s }
 {
@@ -41,6 +44,7 @@ fn after_query(s: Supply, q: Query) -> Supply
     }
 }
 
+#[tactic(auto, using(crate::proofs::Clearing::order_keeps), unfolding(crate::specs::Acts::clearing_order))]
 fn order_clears(o: Order) -> bool
     ensures { result ≡ clearing_order o }
 {
@@ -107,6 +111,7 @@ pub fn obey_order(model: u8, s: Supply, o: Order) -> Outcome
 }
 
 // A sample, and what the registers gain from it.
+#[tactic(auto, unfolding(crate::specs::Acts::performed, crate::specs::Acts::code_of, crate::specs::Acts::acted, crate::specs::Acts::clearing_act))]
 fn sample_settled(model: u8, s: Supply, v: u16, a: u16) -> Supply
     ensures { result ≡ performed model s (Act.Sample v a) }
 {
@@ -137,6 +142,7 @@ pub fn asked(model: u8, s: Supply, q: Query) -> Supply
 }
 
 // An act: its error code, and the supply after it. Only an order can be refused.
+#[tactic(auto, unfolding(crate::specs::Acts::performed, crate::specs::Acts::code_of, crate::specs::Acts::acted, crate::specs::Acts::clearing_act))]
 pub fn perform(model: u8, s: Supply, a: Act) -> Outcome
     ensures { (result.code ≡ code_of model s a) × (result.supply ≡ performed model s a) }
 {

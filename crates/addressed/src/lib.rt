@@ -1,6 +1,8 @@
 // Layer calls.
 // Fields of tags 2 to 5, which name their address: each is a piece that needs only the supply there. The definitions
 // say what any piece does, and those of `pieces` build on them.
+#![tactic(auto)]
+
 ghost use Rattle.std.specs.Prelude.{◌≡◌, true, false, ◌<◌, get_or};
 ghost use Rattle.wire.specs.Wire.{fitted};
 ghost use Rattle.supply.specs.declared.Act.TheVariants.{Sample};
@@ -13,7 +15,7 @@ use wire::Setup;
 
 // What a field of tags 2 to 5 leaves: the supply of the slot that it names and the number of bytes used; or the number
 // of a refusal.
-#[derive(Drop)]
+#[derive(Clone, Copy)]
 pub struct Evented {
     pub supply: Supply,
     pub used: usize,

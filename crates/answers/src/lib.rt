@@ -1,5 +1,7 @@
 // Layer supply.
 // The answers to queries: a figure, a word, a byte or a whole status, from the supply as it stands.
+#![tactic(auto)]
+
 ghost use Rattle.std.specs.Prelude.{◌≡◌};
 ghost use Rattle.answers.specs.Answers.{switch_of, mode_word, running, status_of, answer_of};
 
@@ -11,6 +13,7 @@ fn switch_word(on: bool) -> Word
     if on { Word::On } else { Word::Off }
 }
 
+#[tactic(auto, unfolding(crate::specs::Answers::mode_word))]
 fn mode_word(mode: u8) -> Word
     ensures { result ≡ mode_word mode }
 {
@@ -23,6 +26,7 @@ fn mode_word(mode: u8) -> Word
     }
 }
 
+#[tactic(auto, unfolding(crate::specs::Answers::running))]
 fn running_word(model: u8, s: Supply) -> Word
     ensures { result ≡ running model s }
 {
@@ -58,6 +62,7 @@ fn status_of(model: u8, s: Supply) -> Status
 }
 
 // The answer to a query, from the supply as it stands before the query.
+#[tactic(auto, unfolding(crate::specs::Answers::answer_of))]
 pub fn answer_to(model: u8, s: Supply, q: Query) -> QueryAnswer
     ensures { result ≡ answer_of model s q }
 {

@@ -2,7 +2,7 @@
 use Rattle.std.specs.Prelude.{ℕ, List, [], ◌∷◌, eqb}
 use Rattle.base.specs.Choice.{pick}
 use Rattle.base.specs.Text.{codes}
-use Rattle.words.specs.Words.{Row, findWord}
+use Rattle.words.specs.Words.{Row, find_word}
 use Rattle.supply.specs.declared.Target.{Target}
 use Rattle.supply.specs.declared.Target.TheVariants as target
 use Rattle.supply.specs.declared.Order.{Order}
@@ -134,7 +134,7 @@ commands =
 
 -- the command for a word in capitals
 abbrev pub command_of : List ℕ → Command
-command_of w = findWord unknown_word commands w
+command_of w = find_word unknown_word commands w
 
 -- an order to one supply, or the error code of its parameter; and an order to every fitted supply, which nobody takes
 -- if its parameter is in error

@@ -1,8 +1,10 @@
 // Layer line.
 // What a line asks, by its word and its parameter: an order, a query, an address to select, or an error code.
+#![tactic(auto)]
+
 ghost use Rattle.std.specs.Prelude.{◌≡◌, ◌≤◌};
 ghost use Rattle.base.specs.Choice.{pick};
-ghost use Rattle.words.specs.Words.{findNumber};
+ghost use Rattle.words.specs.Words.{find_number};
 ghost use Rattle.parameters.specs.Parameters.{bare, number, parameter_of};
 ghost use Rattle.asks.specs.Words.{set, out, fld, ast, rmt, fena, sena, to_one, of_one, to_all, selecting};
 ghost use Rattle.asks.specs.Words.{unknown_word, commands, one_order, all_order, asked_with, asked_by};
@@ -63,6 +65,7 @@ fn set_all(t: Target, k: usize, x: &[u8]) -> Asks
     all_order(Order::Set(t, p.value), p.code)
 }
 
+#[tactic(auto, unfolding(crate::specs::Words::asked_by))]
 fn out_one(x: &[u8]) -> Asks
     ensures { result ≡ asked_by (to_one out) x.now }
 {
@@ -70,6 +73,7 @@ fn out_one(x: &[u8]) -> Asks
     one_order(Order::Out(p.value == 1), p.code)
 }
 
+#[tactic(auto, unfolding(crate::specs::Words::asked_by))]
 fn out_all(x: &[u8]) -> Asks
     ensures { result ≡ asked_by (to_all out) x.now }
 {
@@ -77,6 +81,7 @@ fn out_all(x: &[u8]) -> Asks
     all_order(Order::Out(p.value == 1), p.code)
 }
 
+#[tactic(auto, unfolding(crate::specs::Words::asked_by))]
 fn fld_one(x: &[u8]) -> Asks
     ensures { result ≡ asked_by (to_one fld) x.now }
 {
@@ -84,6 +89,7 @@ fn fld_one(x: &[u8]) -> Asks
     one_order(Order::Fld(p.value == 1), p.code)
 }
 
+#[tactic(auto, unfolding(crate::specs::Words::asked_by))]
 fn ast_one(x: &[u8]) -> Asks
     ensures { result ≡ asked_by (to_one ast) x.now }
 {
@@ -91,6 +97,7 @@ fn ast_one(x: &[u8]) -> Asks
     one_order(Order::Ast(p.value == 1), p.code)
 }
 
+#[tactic(auto, unfolding(crate::specs::Words::asked_by))]
 fn rmt_one(x: &[u8]) -> Asks
     ensures { result ≡ asked_by (to_one rmt) x.now }
 {
@@ -99,6 +106,7 @@ fn rmt_one(x: &[u8]) -> Asks
 }
 
 // The byte of an enable register: SENA's if it is that of the status bits, otherwise FENA's.
+#[tactic(auto, unfolding(crate::specs::Words::asked_by))]
 fn enable_one(status: bool, x: &[u8]) -> Asks
     ensures { result ≡ asked_by (to_one (pick status sena fena)) x.now }
 {
@@ -125,6 +133,7 @@ fn bare_all(o: Order, x: &[u8]) -> Asks
     all_order(o, p.code)
 }
 
+#[tactic(auto, unfolding(crate::specs::Words::asked_by))]
 fn query_one(q: Query, x: &[u8]) -> Asks
     ensures { result ≡ asked_by (of_one q) x.now }
 {
@@ -136,6 +145,7 @@ fn query_one(q: Query, x: &[u8]) -> Asks
     }
 }
 
+#[tactic(auto, unfolding(crate::specs::Words::asked_by))]
 fn select_one(x: &[u8]) -> Asks
     ensures { result ≡ asked_by selecting x.now }
 {
@@ -222,7 +232,7 @@ const GRST: u64 = 0x1_47_52_53_54;
 
 // What a line asks with the word of this number and this parameter: one arm for each order and query.
 fn asks_of_word(word: u64, x: &[u8]) -> Asks
-    ensures { result ≡ asked_by (findNumber unknown_word commands word) x.now }
+    ensures { result ≡ asked_by (find_number unknown_word commands word) x.now }
 {
     match word {
         PV => set_one(Target::Pv, 4, x),

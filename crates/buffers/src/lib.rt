@@ -1,5 +1,7 @@
 // Layer ground.
 // A program's buffers: replies as they are printed, and the unused rest of the input.
+#![tactic(auto)]
+
 ghost use Rattle.std.specs.Prelude.{◌≡◌};
 ghost use Rattle.base.specs.Lists.{each_to};
 ghost use Rattle.buffers.specs.Printed.{printed};

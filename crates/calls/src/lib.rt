@@ -1,6 +1,8 @@
 // Layer calls.
 // One call on a rack: works or refuses the first field of the lent bytes, and writes its replies and the service
 // messages after them.
+#![tactic(auto)]
+
 ghost use Rattle.calls.specs.Calls.{CallDoes};
 
 use slots::Rack;
@@ -10,7 +12,7 @@ const CR: u8 = 13;
 
 // What a call returns: code 0, the rack after the field, the bytes used and the length of the reply; or the number of a
 // refusal and the same rack.
-#[derive(Drop)]
+#[derive(Clone, Copy)]
 pub struct Answer {
     pub code: u8,
     pub rack: Rack,

@@ -1,6 +1,7 @@
 // Layer outside.
-// `fit`, `call` and `cell_at` for programs in C or Rust: the exported functions, and nothing else. The rack stays in
-// its owner's memory.
+// `fit`, `call` and `cell_at` for programs in C or Rust, as `capi_c` exports them. The rack stays in its owner's memory.
+#![tactic(auto)]
+
 ghost use Rattle.std.specs.Prelude.{◌≡◌};
 ghost use Rattle.fitting.specs.Fit.{FitDoes};
 ghost use Rattle.calls.specs.Calls.{CallDoes};
@@ -15,7 +16,7 @@ use slots::Rack;
 // What a call returns besides the rack: code 0, the bytes used and the length of the reply; or the number of a refusal,
 // 0 and 0.
 #[repr(C)]
-#[derive(Drop)]
+#[derive(Clone, Copy)]
 pub struct Done {
     pub code: u8,
     pub used: usize,
@@ -23,8 +24,7 @@ pub struct Done {
 }
 
 // The fresh rack of a fitting list; or code 8 and a rack of empty slots.
-#[unsafe(no_mangle)]
-pub extern "C" fn pu_fit(list: &[u8]) -> Fitted
+pub fn pu_fit(list: &[u8]) -> Fitted
     ensures { FitDoes list.now result }
 {
     fitting::fit(list)
@@ -33,8 +33,7 @@ pub extern "C" fn pu_fit(list: &[u8]) -> Fitted
 // One call: works the first field of the lent bytes on the lent rack. The contract is that of `call`, so a list of
 // these calls on a rack from `pu_fit` is a `Run` of isolation/specs/Demand3.antt, and what is stated there about racks
 // holds for the lent one.
-#[unsafe(no_mangle)]
-pub extern "C" fn pu_call(rack: &mut Rack, bytes: &[u8], reply: &mut [u8]) -> Done
+pub fn pu_call(rack: &mut Rack, bytes: &[u8], reply: &mut [u8]) -> Done
     ensures { CallDoes rack.old bytes.now reply.old
         (answer_with result rack.new) reply.new }
 {
@@ -48,8 +47,7 @@ pub extern "C" fn pu_call(rack: &mut Rack, bytes: &[u8], reply: &mut [u8]) -> Do
 }
 
 // The resistance of the cell at an address, and the readings of its supply; or code 6. The lent rack is only read.
-#[unsafe(no_mangle)]
-pub extern "C" fn pu_resistance(rack: &Rack, address: u64) -> CellNumbers
+pub fn pu_resistance(rack: &Rack, address: u64) -> CellNumbers
     ensures { result ≡ cell_numbers (cell_at rack.now address) }
 {
     resistance::cell_numbers(*rack, address)

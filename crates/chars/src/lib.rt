@@ -1,10 +1,12 @@
 // Layer rack.
 // The characters of a line up to its CR, and the LF after it.
+#![tactic(auto)]
+
 ghost use Rattle.chars.specs.Chars.{CharsDo, FeedDoes};
 
 // The line after the characters before a CR or the end of the bytes: how many are kept, whether it is spoiled, and the
 // index of that CR or end.
-#[derive(Drop)]
+#[derive(Clone, Copy)]
 pub struct Advance {
     pub count: usize,
     pub spoiled: bool,

@@ -1,5 +1,7 @@
 // Layer supply.
 // The error code that an order draws: the first check that fails decides, and 0 means accepted.
+#![tactic(auto)]
+
 ghost use Rattle.std.specs.Prelude.{◌≡◌, ◌||◌, ◌*◌, ltb};
 ghost use Rattle.base.specs.Choice.{pick};
 ghost use Rattle.models.specs.Models.{limits_of};
@@ -68,6 +70,7 @@ fn uvl_code(most: u32, pv: u32, n: u64) -> u8
 
 // The error code of PV n, PC n, OVP n or UVL n. Each arm looks up the limits for itself, so that the compiler
 // reads only those the arm needs.
+#[tactic(auto, unfolding(crate::specs::Codes::set_code))]
 pub fn set_code(model: u8, s: Supply, t: Target, n: u64) -> u8
     ensures { result ≡ set_code (limits_of model) s t n }
 {
@@ -98,6 +101,7 @@ fn out_code(on: bool, clear: bool) -> u8
 }
 
 // The error code of an order; 0 if it is accepted.
+#[tactic(auto, unfolding(crate::specs::Codes::order_code))]
 pub fn order_code(model: u8, s: Supply, o: Order) -> u8
     ensures { result ≡ order_code model s o }
 {

@@ -7,11 +7,11 @@ use native.Mathlib.Omega.{arith}
 use lib.Dec.{eqb}
 use lib.ListN.{length, take, drop}
 use Rattle.figures.specs.declared.Number.{Number}
-use Rattle.hex.specs.Hex.{read_hex, checksum}
+use Rattle.hexadecimal.specs.Hex.{read_hex, checksum}
 use Rattle.command.specs.Lines.{before_checksum, right_checksum}
 
 -- the checksum of a line of three or more characters
-pub right_checksum :
+pub checksum_told :
     (s a b : List ℕ) (told : Number) (x w : ℕ)
     → 3 ≤ length s
     → a ≡ drop (length s - 3 + 1) s
@@ -21,7 +21,7 @@ pub right_checksum :
     → w ≡ x
     → (told.good && eqb told.value w) ≡ right_checksum s
 unfolding right_checksum
-right_checksum s a b told x w h ea eb et ex ew =
+checksum_told s a b told x w h ea eb et ex ew =
     let k : length s - 3 + 1 ≡ length s - 2 = omega arith in
     let d : told ≡ read_hex (drop (length s - 2) s) = et ∙ ap read_hex (ea ∙ ap (λ (j : ℕ). drop j s) k) in
     let c : w ≡ checksum (before_checksum s) = ew ∙ ex ∙ ap checksum eb in

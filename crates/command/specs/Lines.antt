@@ -1,7 +1,7 @@
 -- A line's kept characters: its checksum, and what the line asks at its CR.
 use Rattle.std.specs.Prelude.{ℕ, ◌-◌, List, Bool, true, false, ◌&&◌, leb, eqb, length, get_or, take, drop}
 use Rattle.base.specs.Choice.{pick}
-use Rattle.hex.specs.Hex.{read_hex, checksum}
+use Rattle.hexadecimal.specs.Hex.{read_hex, checksum}
 use Rattle.asks.specs.declared.Asks.{Asks}
 use Rattle.asks.specs.declared.Asks.TheVariants.{Error}
 use Rattle.command.specs.declared.Heard.{Heard}

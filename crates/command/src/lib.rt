@@ -1,5 +1,7 @@
 // Layer line.
 // One line of text: its checksum, the rest of the line, and what that asks, from the line alone.
+#![tactic(auto)]
+
 ghost use Rattle.std.specs.Prelude.{◌≡◌, ◌≤◌, length};
 ghost use Rattle.command.specs.Lines.{heard_as, right_checksum, heard_of};
 
@@ -26,8 +28,8 @@ fn right_checksum(s: &[u8]) -> bool
     ensures { result ≡ right_checksum s.now }
 {
     let n = s.len();
-    let told = hex::read_hex(figures::part_after(s, n - 3));
-    let checksum = hex::checksum(base::part_to(s, n - 3));
+    let told = hexadecimal::read_hex(figures::part_after(s, n - 3));
+    let checksum = hexadecimal::checksum(base::part_to(s, n - 3));
     told.good & (told.value == base::wide(checksum))
 }
 

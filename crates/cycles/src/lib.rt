@@ -1,5 +1,7 @@
 // Layer outside.
 // One cycle of the program: the bytes read are worked, and what is to be written is collected.
+#![tactic(auto)]
+
 ghost use Rattle.std.specs.Prelude.{◌≡◌, length};
 ghost use Rattle.slots.specs.View.{Able};
 ghost use Rattle.cycles.specs.Cycle.{CycleDoes};
@@ -15,7 +17,7 @@ const LF: u8 = 10;
 
 // The outcome of a cycle: the rack after it, the bytes used, how many bytes are to be written, the number of the
 // refusal that ended it (0 if the buffer was full), and whether to read on because further bytes may mend the refusal.
-#[derive(Drop)]
+#[derive(Clone, Copy)]
 pub struct CycleOutcome {
     pub rack: Rack,
     pub used: usize,

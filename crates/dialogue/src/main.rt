@@ -8,11 +8,13 @@
 //   < TEXT    the reply to the line before, without its CR; nothing after < if none comes
 // In the TEXT of a line, \xHH is the byte with these hexadecimal digits. Prints where the first wrong items are, then
 // how many replies were expected and how many items were wrong.
+#![tactic(auto)]
+
 ghost use Rattle.std.specs.Prelude.{◌<◌, ◌≤◌, length};
 
 use asks::Asks;
-use libc::{STDIN_FILENO, STDOUT_FILENO};
 use reply::Obeyed;
+use std::io;
 use supply::{Act, Supply};
 
 // More bytes than the input has. The rest of a longer input would not be read, and the count would show it.
@@ -35,7 +37,7 @@ const NAMED: u64 = 10;
 
 // How far the talk has come: the supply with its model, the length of the reply to the last line and whether it is
 // still to be compared, and how many items, replies and wrong items there were so far.
-#[derive(Drop)]
+#[derive(Clone, Copy)]
 struct Talk {
     model: u8,
     supply: Supply,
@@ -47,7 +49,7 @@ struct Talk {
 }
 
 // One byte of a text, and the index after its notation.
-#[derive(Drop)]
+#[derive(Clone, Copy)]
 struct Character {
     byte: u8,
     next: usize,
@@ -58,11 +60,10 @@ fn one_more(n: u64) -> u64 {
 }
 
 // Counts an item as wrong and names its line, unless enough of them are named.
-fn wrong_item(t: Talk) -> Talk {
+fn wrong_item(rt: &HostRuntime, t: Talk) -> Talk {
     if t.wrong < NAMED {
-        io::write_all(STDOUT_FILENO, b"wrong: line ");
-        io::print_decimal(STDOUT_FILENO, t.items);
-        io::write_all(STDOUT_FILENO, b"\n");
+        let line = t.items;
+        let _ = println!(rt; "wrong: line {line}");
     }
     let mut r = t;
     r.wrong = one_more(t.wrong);
@@ -70,8 +71,8 @@ fn wrong_item(t: Talk) -> Talk {
 }
 
 // If a reply still waits to be compared, the input lacks it, and the item is wrong.
-fn nothing_waits(t: Talk) -> Talk {
-    if t.waits { wrong_item(t) } else { t }
+fn nothing_waits(rt: &HostRuntime, t: Talk) -> Talk {
+    if t.waits { wrong_item(rt, t) } else { t }
 }
 
 // The character that begins at an index: \xHH, or a byte as it is.
@@ -92,7 +93,7 @@ fn character_at(s: &[u8], i: usize) -> Character
             next: i + 1,
         };
     }
-    let n = hex::read_hex(&s[i + 2..i + 4]);
+    let n = hexadecimal::read_hex(&s[i + 2..i + 4]);
     Character {
         byte: (n.value % 256) as u8,
         next: i + 4,
@@ -154,9 +155,9 @@ fn is_reply(buf: &[u8], length: usize, text: &[u8]) -> bool {
     check::same(base::part_to(buf, n), text) & (buf[n] == 13) & (length == n + 1)
 }
 
-fn take_model(t: Talk, text: &[u8]) -> Talk {
+fn take_model(rt: &HostRuntime, t: Talk, text: &[u8]) -> Talk {
     let n = figures::read_number(text, 0);
-    let mut r = nothing_waits(t);
+    let mut r = nothing_waits(rt, t);
     r.waits = false;
     if n.good & (n.value < MODELS) {
         let model = (n.value % 256) as u8;
@@ -165,17 +166,23 @@ fn take_model(t: Talk, text: &[u8]) -> Talk {
         r.supply = fresh;
         r
     } else {
-        wrong_item(r)
+        wrong_item(rt, r)
     }
 }
 
-fn take_line(said: &mut [u8; REPLY_ROOM], t: Talk, text: &[u8], spoiled: bool) -> Talk {
+fn take_line(
+    rt: &HostRuntime,
+    said: &mut [u8; REPLY_ROOM],
+    t: Talk,
+    text: &[u8],
+    spoiled: bool,
+) -> Talk {
     let mut line = [0u8; LINE_ROOM];
     let n = put_bytes(&mut line, text);
-    let mut r = nothing_waits(t);
+    let mut r = nothing_waits(rt, t);
     r.waits = true;
     if LINE < n {
-        return wrong_item(r);
+        return wrong_item(rt, r);
     }
     let s = t.supply;
     let done = hear_line(t.model, s, base::part_to(&line, n), spoiled, said);
@@ -185,34 +192,34 @@ fn take_line(said: &mut [u8; REPLY_ROOM], t: Talk, text: &[u8], spoiled: bool) -
     r
 }
 
-fn take_reply(said: &[u8; REPLY_ROOM], t: Talk, text: &[u8]) -> Talk {
+fn take_reply(rt: &HostRuntime, said: &[u8; REPLY_ROOM], t: Talk, text: &[u8]) -> Talk {
     let mut r = t;
     r.waits = false;
     r.replies = one_more(t.replies);
     if t.waits & is_reply(said, t.length, text) {
         r
     } else {
-        wrong_item(r)
+        wrong_item(rt, r)
     }
 }
 
 // An item is a word, followed by the text after the first space.
-fn take_item(said: &mut [u8; REPLY_ROOM], t: Talk, item: &[u8]) -> Talk {
+fn take_item(rt: &HostRuntime, said: &mut [u8; REPLY_ROOM], t: Talk, item: &[u8]) -> Talk {
     let p = figures::first_at(item, b' ');
     let word = base::part_to(item, p);
     let text = figures::part_after(item, p);
     let mut r = t;
     r.items = one_more(t.items);
     if check::same(word, b">") {
-        take_line(said, r, text, false)
+        take_line(rt, said, r, text, false)
     } else if check::same(word, b"!") {
-        take_line(said, r, text, true)
+        take_line(rt, said, r, text, true)
     } else if check::same(word, b"<") {
-        take_reply(said, r, text)
+        take_reply(rt, said, r, text)
     } else if check::same(word, b"model") {
-        take_model(r, text)
+        take_model(rt, r, text)
     } else {
-        wrong_item(r)
+        wrong_item(rt, r)
     }
 }
 
@@ -228,25 +235,22 @@ fn first_talk() -> Talk {
     }
 }
 
-fn take_items(s: &[u8]) -> Talk {
+fn take_items(rt: &HostRuntime, s: &[u8]) -> Talk {
     let mut said = [0u8; REPLY_ROOM];
     let mut t = first_talk();
     let mut rest = s;
     while 0 < rest.len() {
         let p = figures::first_at(rest, b'\n');
-        t = take_item(&mut said, t, base::part_to(rest, p));
+        t = take_item(rt, &mut said, t, base::part_to(rest, p));
         let after = figures::part_after(rest, p);
         rest = after;
     }
-    nothing_waits(t)
+    nothing_waits(rt, t)
 }
 
-fn main() {
+fn main(rt: HostRuntime) -> io::Result<()> {
     let mut input = [0u8; INPUT];
-    let n = io::read_full(STDIN_FILENO, &mut input);
-    let t = take_items(base::part_to(&input, n));
-    io::print_decimal(STDOUT_FILENO, t.replies);
-    io::write_all(STDOUT_FILENO, b" replies, ");
-    io::print_decimal(STDOUT_FILENO, t.wrong);
-    io::write_all(STDOUT_FILENO, b" wrong\n");
+    let got = console::read_full(&rt, &mut input);
+    let Talk { replies, wrong, .. } = take_items(&rt, base::part_to(&input, got.count));
+    println!(rt; "{replies} replies, {wrong} wrong")
 }

@@ -8,7 +8,7 @@ use native.Mathlib.Nat.{add-zero, add_assoc}
 use lib.ListN.{length, drop}
 use Rattle.base.specs.Choice.{pick}
 use Rattle.wire.specs.Wire.{Item, Parsed, refuse, accept, fitted, Sent, scan, parse}
-use Rattle.wire.specs.Rack.{refused, done, call_of, moved, replies, messages, drawnSince}
+use Rattle.wire.specs.Rack.{refused, done, call_of, moved, replies, messages, drawn_since}
 use Rattle.wire.specs.Rack as wire
 use Rattle.wire.proofs.Stream.{scan_append}
 use Rattle.wire.proofs.Calls.{moved_twice}
@@ -29,7 +29,7 @@ drawn v is = replies plain_supply v.setup v.slots (sent_by v is).sent
 -- the result of the rest of a field, where ss are the slots that it found
 abbrev pub answer_since : List Supply → wire.Rack Supply → Parsed → wire.CallResult Supply
 answer_since ss v (refuse n) = refused n
-answer_since ss v (accept n is) = done (moved plain_supply v (sent_by v is)) n (drawnSince plain_supply ss v (sent_by v is))
+answer_since ss v (accept n is) = done (moved plain_supply v (sent_by v is)) n (drawn_since plain_supply ss v (sent_by v is))
 
 -- fields in turn, beginning with the last `left` serial bytes of a field that found the slots ss; or no field was begun
 abbrev pub onward : ℕ → (ℕ → Bool) → List ℕ → List Supply → wire.Rack Supply → ℕ → ℕ → List ℕ → Ran
@@ -45,12 +45,12 @@ onward_new n stop s v used said = ap (after_field (fields_from n stop s) stop v 
     by_parsed (accept k is) = refl
 
 module _ (ss : List Supply) (v q : wire.Rack Supply) (is : List Item) (e : q ≡ moved plain_supply v (sent_by v is)) where
-  split : (n : ℕ) (js : List Item) → answer_since ss v (accept n (is ++ js)) ≡ done (moved plain_supply q (sent_by q js)) n (drawn v is ++ drawnSince plain_supply ss q (sent_by q js))
+  split : (n : ℕ) (js : List Item) → answer_since ss v (accept n (is ++ js)) ≡ done (moved plain_supply q (sent_by q js)) n (drawn v is ++ drawn_since plain_supply ss q (sent_by q js))
   split n js =
       let first : Sent = sent_by v is in
       let then : Sent = scan grammar v.setup first.wire js in
       let drew : List ℕ = replies plain_supply v.setup v.slots (first.sent ++ then.sent) in
-      ap (λ (s : Sent). done (moved plain_supply v s) n (drawnSince plain_supply ss v s)) (scan_append grammar v.setup v.wire is js)
+      ap (λ (s : Sent). done (moved plain_supply v s) n (drawn_since plain_supply ss v s)) (scan_append grammar v.setup v.wire is js)
       ∙ ap (λ (r : wire.Rack Supply). done r n (drew ++ messages plain_supply ss r.slots)) (moved_twice plain_supply v first then)
       ∙ rw (e, replies_append plain_supply v.setup v.slots first.sent then.sent, append_assoc) refl
 
@@ -59,7 +59,7 @@ module _ (ss : List Supply) (v q : wire.Rack Supply) (is : List Item) (e : q ≡
     pub after_part : (left : ℕ) (js : List Item) → after_field go stop v used said (answer_since ss v (accept (n + left) (is ++ js))) ≡ after_field go stop q (used + n) (said ++ drawn v is) (answer_since ss q (accept left js))
     after_part left js =
         ap (after_field go stop v used said) (split (n + left) js)
-        ∙ rw (← append_assoc said (drawn v is) (drawnSince plain_supply ss q (sent_by q js)), ← add_assoc used n left) refl
+        ∙ rw (← append_assoc said (drawn v is) (drawn_since plain_supply ss q (sent_by q js)), ← add_assoc used n left) refl
 
     -- none is left, and the messages follow
     pub after_all : after_field go stop v used said (answer_since ss v (accept (n + 0) (is ++ []))) ≡ pick (stop (length ((said ++ drawn v is) ++ messages plain_supply ss q.slots))) (ran q (used + n) ((said ++ drawn v is) ++ messages plain_supply ss q.slots) 0) (go q (used + n) ((said ++ drawn v is) ++ messages plain_supply ss q.slots))

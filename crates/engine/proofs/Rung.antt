@@ -13,7 +13,7 @@ use Rattle.base.specs.Choice.{pick}
 use Rattle.base.specs.Put.{Put}
 use Rattle.base.proofs.Lists.{get_d_any}
 use Rattle.base.proofs.Put.{put_none, put_length}
-use Rattle.wire.specs.Rack.{messagesTo, messages}
+use Rattle.wire.specs.Rack.{messages_to, messages}
 use Rattle.wire.proofs.Messages.{messages_none, messages_one}
 use Rattle.supply.specs.declared.Supply.{Supply}
 use Rattle.supply.specs.State.{fresh}
@@ -53,7 +53,7 @@ sent_one ss k x low =
 -- with the registers of all kept, their messages are those from the slots that the field found
 all_sent : (since ss : List Supply) (kept : List ℕ) (n : ℕ) → n ≤ 31
     → ((a : ℕ) → a < 31 → (feve_in kept a ≡ (slot_at since a).feve) × (seve_in kept a ≡ (slot_at since a).seve))
-    → messages_by n kept ss ≡ messagesTo plain_supply n since ss
+    → messages_by n kept ss ≡ messages_to plain_supply n since ss
 all_sent since ss kept zero h same = refl
 all_sent since ss kept (suc n) h same =
     let e = same n (omega (arith, h)) in

@@ -1,5 +1,7 @@
 // Layer calls.
 // Works lent bytes field after field, piece by piece, and changes the slots in place.
+#![tactic(auto)]
+
 ghost use Rattle.std.specs.Prelude.{◌≤◌, ◌+◌, length};
 ghost use Rattle.plain.specs.Plain.{least_reply};
 ghost use Rattle.slots.specs.View.{Able};
@@ -10,7 +12,7 @@ use slots::Rack;
 
 // Fields worked: the rack after them, the bytes used, the index after their replies and messages, and the number of the
 // refusal of the next field, or 0.
-#[derive(Drop)]
+#[derive(Clone, Copy)]
 pub struct Worked {
     pub rack: Rack,
     pub used: usize,

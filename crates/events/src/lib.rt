@@ -1,5 +1,7 @@
 // Layer supply.
 // What LINES, keys and the knob do to a supply.
+#![tactic(auto)]
+
 ghost use Rattle.std.specs.Prelude.{◌≡◌, true, false, eqb};
 ghost use Rattle.base.specs.Choice.{pick};
 ghost use Rattle.supply.specs.With.{with_want, with_armed};
@@ -9,6 +11,7 @@ ghost use Rattle.events.specs.Events.{any_rises, falls, lines_changed, turned_on
 use supply::{Key, Supply, Target};
 
 // Whether any bit of LINES rises.
+#[tactic(auto, unfolding(crate::specs::Events::any_rises))]
 fn any_rises(old: u8, new: u8) -> bool
     ensures { result ≡ any_rises old new }
 {
@@ -16,6 +19,7 @@ fn any_rises(old: u8, new: u8) -> bool
 }
 
 // Whether AC, bit 1 of LINES, falls.
+#[tactic(auto, unfolding(crate::specs::Events::falls, base::specs::Bits::bit_at))]
 fn ac_falls(old: u8, new: u8) -> bool
     ensures { result ≡ falls 1 old new }
 {
@@ -23,6 +27,7 @@ fn ac_falls(old: u8, new: u8) -> bool
 }
 
 // Whether SO, bit 5 of LINES, falls.
+#[tactic(auto, unfolding(crate::specs::Events::falls, base::specs::Bits::bit_at))]
 fn so_falls(old: u8, new: u8) -> bool
     ensures { result ≡ falls 5 old new }
 {
@@ -41,6 +46,7 @@ fn unlocked(fell: bool, mode: u8) -> u8
 }
 
 // A new LINES byte.
+#[tactic(auto, using(crate::proofs::Cases::lines_law))]
 pub fn lines_changed(s: Supply, b: u8) -> Supply
     ensures { result ≡ lines_changed s b }
 {
@@ -58,6 +64,7 @@ pub fn lines_changed(s: Supply, b: u8) -> Supply
 }
 
 // Releases both trips and turns WANT on.
+#[tactic(auto, unfolding(crate::specs::Events::turned_on))]
 pub fn turn_on(s: Supply) -> Supply
     ensures { result ≡ turned_on s }
 {
@@ -69,6 +76,7 @@ pub fn turn_on(s: Supply) -> Supply
 }
 
 // Turns ARMED off; if there was a FOLD trip, releases it and turns WANT off.
+#[tactic(auto, using(crate::proofs::Cases::disarm_law))]
 pub fn disarm(s: Supply) -> Supply
     ensures { result ≡ disarmed s }
 {
@@ -107,6 +115,7 @@ fn fold_key(s: Supply) -> Supply
 }
 
 // A key: OUTPUT and FOLD work only in MODE 0, LOCAL only in MODE 1.
+#[tactic(auto, unfolding(crate::specs::Events::pressed))]
 pub fn press(s: Supply, k: Key) -> Supply
     ensures { result ≡ pressed s k }
 {
@@ -126,6 +135,7 @@ pub fn press(s: Supply, k: Key) -> Supply
 }
 
 // A knob step; it works only in MODE 0.
+#[tactic(auto, unfolding(crate::specs::Events::turned))]
 pub fn turn(model: u8, s: Supply, t: Target, raw: u32) -> Supply
     ensures { result ≡ turned model s t raw }
 {

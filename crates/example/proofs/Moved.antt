@@ -9,7 +9,7 @@ use Rattle.base.specs.Text.{codes}
 use Rattle.models.specs.Models.{table, limits_of, volt_reading, amp_reading}
 use Rattle.figures.specs.Digits.{all_digits, run_value}
 use Rattle.figures.specs.Number.{first_at, well_formed, whole_units, scaled_value, read_number}
-use Rattle.hex.specs.Hex.{is_hex, hex_of, read_hex}
+use Rattle.hexadecimal.specs.Hex.{is_hex, hex_of, read_hex}
 use Rattle.supply.specs.State.{fresh}
 use Rattle.supply.specs.Flt.{flt_of, on_of, lines_clear, in_limit}
 use Rattle.supply.specs.Stat.{stat_of}
@@ -19,7 +19,7 @@ use Rattle.settings.specs.Settings.{setting_of, with_setting, least_of, most_of,
 use Rattle.samples.specs.Samples.{sampled}
 use Rattle.events.specs.Events.{turned_on, disarmed, pressed, turned}
 use Rattle.acts.specs.Acts.{code_of, after_query, clearing_order, clearing_act, acted, performed}
-use Rattle.words.specs.Words.{findWord}
+use Rattle.words.specs.Words.{find_word}
 use Rattle.parameters.specs.Parameters.{read_as, parameter_of}
 use Rattle.asks.specs.Words.{asked_by}
 use Rattle.asks.specs.Asked.{asks_of}
@@ -48,11 +48,11 @@ share_at a =
     line (codes "FLT?") false ∷ []
 
 share_here : share_of grammar (setup_of fitting_list) here 6 ≡ share_at 6
-unfolding share_at fitting_list here brought share.typed parse read_field header_code length_fits values_fit class_of heard_of asks_of right_checksum asked_by parameter_of read_as findWord read_number scaled_value whole_units well_formed first_at run_value all_digits read_hex hex_of is_hex
+unfolding share_at fitting_list here brought share.typed parse read_field header_code length_fits values_fit class_of heard_of asks_of right_checksum asked_by parameter_of read_as find_word read_number scaled_value whole_units well_formed first_at run_value all_digits read_hex hex_of is_hex
 share_here = refl
 
 share_there : share_of grammar (setup_of list_there) there 9 ≡ share_at 9
-unfolding share_at list_there there brought share.typed parse read_field header_code length_fits values_fit class_of heard_of asks_of right_checksum asked_by parameter_of read_as findWord read_number scaled_value whole_units well_formed first_at run_value all_digits read_hex hex_of is_hex
+unfolding share_at list_there there brought share.typed parse read_field header_code length_fits values_fit class_of heard_of asks_of right_checksum asked_by parameter_of read_as find_word read_number scaled_value whole_units well_formed first_at run_value all_digits read_hex hex_of is_hex
 share_there = refl
 
 addresses_only : map unaddressed (share_at 6) ≡ map unaddressed (share_at 9)
@@ -60,7 +60,7 @@ unfolding share_at
 addresses_only = refl
 
 end_here : plain plain_supply 0 (share_at 6) ≡ charging_again
-unfolding share_at charging_again step_of act_of press_of turn_of heard_of asks_of right_checksum asked_by parameter_of read_as findWord obeyed performed acted after_query clearing_order clearing_act code_of sampled turned_on disarmed pressed turned stepped nearest_in signed_of least_of most_of with_setting setting_of settled cv_forgotten feve_gained seve_gained stat_of on_of lines_clear in_limit flt_of fresh volt_reading amp_reading limits_of table first_at
+unfolding share_at charging_again step_of act_of press_of turn_of heard_of asks_of right_checksum asked_by parameter_of read_as find_word obeyed performed acted after_query clearing_order clearing_act code_of sampled turned_on disarmed pressed turned stepped nearest_in signed_of least_of most_of with_setting setting_of settled cv_forgotten feve_gained seve_gained stat_of on_of lines_clear in_limit flt_of fresh volt_reading amp_reading limits_of table first_at
 end_here = refl
 
 -- the address in the first entry of a share

@@ -5,7 +5,7 @@ use Prim.Native.String.{String}
 use Rattle.base.specs.Text.{codes}
 use Rattle.wire.specs.Wire.{Entry, field, line, Call}
 use Rattle.wire.specs.Share.{share_of}
-use Rattle.wire.specs.Rack.{CallResult, refused, done, call_of, after, freshRack}
+use Rattle.wire.specs.Rack.{CallResult, refused, done, call_of, after, fresh_rack}
 use Rattle.wire.specs.Rack as wire
 use Rattle.supply.specs.declared.Supply.{Supply}
 use Rattle.supply.specs.Flt.{on_of}
@@ -155,7 +155,7 @@ end_state =
 -- THE WHOLE OUTCOME
 pub record WorkedOut : Type 0 where
   -- what each call returns: slot 6 sends its message when its output comes on in CC, and again when it trips
-  pub answers_are : answers (freshRack plain_supply (setup_of fitting_list)) calls ≡ worked_answers
+  pub answers_are : answers (fresh_rack plain_supply (setup_of fitting_list)) calls ≡ worked_answers
   -- the share of slot 6, with trip and release in their places; and the neighbour's, up to the release
   pub share_is : share_of grammar (setup_of fitting_list) calls 6 ≡ share_tripping ++ share_tripped ++ share_released
   pub share_beside : share_of grammar (setup_of fitting_list) (tripping ++ tripped) 9 ≡ share_neighbour

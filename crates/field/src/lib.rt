@@ -1,10 +1,12 @@
 // Layer rack.
 // A field's tag, length and payload, or its refusal. Nothing here knows the rack.
+#![tactic(auto)]
+
 ghost use Rattle.std.specs.Prelude.{◌≡◌, ◌+◌, ◌<◌, ◌≤◌, length, get_or, take, drop};
 ghost use Rattle.field.specs.Fields.{pair_at, tag_of, length_of, length_fits, header_code};
 
 // The header of a field: code 0 or refusal 2 to 5, its tag and the length of its payload.
-#[derive(Drop)]
+#[derive(Clone, Copy)]
 pub struct Header {
     pub code: u8,
     pub tag: u8,
@@ -27,6 +29,7 @@ pub fn pair_at(s: &[u8], i: usize) -> u16
 }
 
 // Whether this length is allowed for the tag.
+#[tactic(auto, unfolding(crate::specs::Fields::length_fits))]
 fn length_fits(tag: u8, n: usize) -> bool
     ensures { result ≡ length_fits tag n }
 {

@@ -67,13 +67,13 @@ module _ (a d : ℕ) (some : 0 < d) where
       by_tests false e false e' =
           at_tie (eqb (a / d % 2) 0) refl (omega (arith, ltb-false (2 * (a % d)) d e, ltb-false d (2 * (a % d)) e'))
 
-  -- two numbers of units cannot both be nearest and even: the one between them would be nearer
-  none_above : (r s : ℕ) → Rounded a d r → Rounded a d s → r < s → ⊥
-  none_above r s p q h =
-      let e : apart (s * d) a ≡ apart (r * d) a = omega (arith, p.none_nearer s, q.none_nearer r) in
-      let two : suc (suc r) ≤ s = omega (arith, p.even_of_two s (λ x. omega arith) e, q.even_of_two r (λ x. omega arith) (sym e)) in
-      omega (arith, p.none_nearer (suc r), mul-le-mul_right d two)
-
   -- ONLY ONE NUMBER IS SO
   pub rounded_one : (r s : ℕ) → Rounded a d r → Rounded a d s → r ≡ s
   rounded_one r s p q = omega (arith, none_above r s p q, none_above s r q p)
+    where
+      -- two numbers of units cannot both be nearest and even: the one between them would be nearer
+      none_above : (r s : ℕ) → Rounded a d r → Rounded a d s → r < s → ⊥
+      none_above r s p q h =
+          let e : apart (s * d) a ≡ apart (r * d) a = omega (arith, p.none_nearer s, q.none_nearer r) in
+          let two : suc (suc r) ≤ s = omega (arith, p.even_of_two s (λ x. omega arith) e, q.even_of_two r (λ x. omega arith) (sym e)) in
+          omega (arith, p.none_nearer (suc r), mul-le-mul_right d two)

@@ -1,5 +1,7 @@
 // Layer ground.
 // Figures on the serial line: digits and numbers with decimals, read from bytes.
+#![tactic(auto)]
+
 ghost use Rattle.std.specs.Prelude.{◌≡◌, ◌+◌, ◌-◌, ◌*◌, ◌/◌, ◌^◌, ◌<◌, ◌≤◌, length, drop};
 ghost use Rattle.figures.specs.Digits.{digit_of, run_value, all_digits};
 ghost use Rattle.figures.specs.Number.{first_at, whole_units, scaled_value, read_number, no_number};

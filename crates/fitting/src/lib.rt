@@ -1,5 +1,7 @@
 // Layer calls.
 // A fitting list: the check of its bytes, its models, and the fresh rack that they make.
+#![tactic(auto)]
+
 ghost use Rattle.std.specs.Prelude.{◌≡◌, length};
 ghost use Rattle.fitting.specs.Fitting.{all_allowed, Made};
 ghost use Rattle.fitting.specs.Fit.{FitDoes};
@@ -9,7 +11,7 @@ use wire::Setup;
 
 // What a fitting list makes: code 0 and a fresh rack, or code 8 and a rack of empty slots.
 #[repr(C)]
-#[derive(Drop)]
+#[derive(Clone, Copy)]
 pub struct Fitted {
     pub code: u8,
     pub rack: Rack,

@@ -1,5 +1,7 @@
 // Layer rack.
 // A global in code: an order to every fitted slot; each supply judges it for itself.
+#![tactic(auto)]
+
 ghost use Rattle.std.specs.Prelude.{◌≡◌};
 ghost use Rattle.base.specs.Lists.{each_to};
 ghost use Rattle.acts.specs.Acts.{performed};

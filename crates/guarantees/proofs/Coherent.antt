@@ -1,7 +1,7 @@
 -- The fresh supply is coherent, and each checked act leaves a coherent supply coherent.
 use Prim.Native.Nat.{ℕ, ◌≤◌}
 use mathlib.Core.Path.{◌≡◌, refl, ◌∙◌}
-use mathlib.Core.Bool.{Bool, true, false, not, ◌||◌, false≢true, and-eq-true_iff, and_false}
+use mathlib.Core.Bool.{Bool, true, false, not, ◌||◌, false≢true, and-eq-true_iff, and-false}
 use native.Mathlib.Omega.{arith}
 use lib.Bits.{bit_and}
 use lib.Dec.{eqb}
@@ -49,7 +49,7 @@ unfolding bit_at
 sena_bits_lem b = (dropped 4 refl, (dropped 5 refl, dropped 6 refl))
   where
     dropped : (k : ℕ) → bit_at k sena_bits ≡ false → bit_at k (bit_and b sena_bits) ≡ false
-    dropped k e = bit_of_and k b sena_bits ∙ rw e (and_false (bit_at k b))
+    dropped k e = bit_of_and k b sena_bits ∙ rw e (and-false (bit_at k b))
 
 mode_picked : (t : Bool) (j k : ℕ) → j ≤ 2 → k ≤ 2 → pick t j k ≤ 2
 mode_picked = pick_keeps (λ (n : ℕ). n ≤ 2)

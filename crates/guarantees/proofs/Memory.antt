@@ -1,7 +1,7 @@
 -- The CV memory after an act.
 use Prim.Native.Nat.{ℕ}
 use mathlib.Core.Path.{◌≡◌, refl, sym, ap, ◌∙◌}
-use mathlib.Core.Bool.{Bool, true, false, not, ◌&&◌, ◌||◌, false≢true, true≢false, and-eq-true_iff, or_false, or_comm}
+use mathlib.Core.Bool.{Bool, true, false, not, ◌&&◌, ◌||◌, false≢true, true≢false, and-eq-true_iff, or-false, or_comm}
 use mathlib.Mathlib.Data.Bool.Basic.{eq-false_of_not-eq-true}
 use lib.Dec.{leb, eqb}
 use borrow.Author.Tests.{eqb-true, eqb-false}
@@ -16,7 +16,7 @@ use Rattle.supply.specs.With.{with_fold_trip, with_ovp_trip}
 use Rattle.supply.specs.Flt.{flt_of, on_of, in_limit}
 use Rattle.supply.specs.Memory.{cv_forgotten}
 use Rattle.supply.specs.Registers.{feve_gained, seve_gained, settled}
-use Rattle.supply.proofs.FltBits.{fold_shut, ovp_shut}
+use Rattle.supply.proofs.Shut.{fold_shut, ovp_shut}
 use Rattle.samples.specs.Samples.{reaches_ovp, trips_ovp, trips_fold, judged_cv, sampled}
 use Rattle.orders.specs.Orders.{ordered}
 use Rattle.acts.specs.Acts.{code_of, clearing_act, cleared, acted, performed}
@@ -52,7 +52,7 @@ module _ (m : ℕ) (s : Supply) where
   kept_so : (a : Act) → code_of m s a ≡ 0
       → (on_of (performed m s a) && (acted m s a).cv_seen) ≡ (on_of (performed m s a) && s.cv_seen)
       → (performed m s a).cv_seen ≡ (on_of (performed m s a) && (s.cv_seen || false))
-  kept_so a e h = closed_seen a e ∙ h ∙ ap (λ (b : Bool). on_of (performed m s a) && b) (sym (or_false s.cv_seen))
+  kept_so a e h = closed_seen a e ∙ h ∙ ap (λ (b : Bool). on_of (performed m s a) && b) (sym (or-false s.cv_seen))
 
   same_so : (a : Act) {x : Bool} → x ≡ s.cv_seen → (on_of (performed m s a) && x) ≡ (on_of (performed m s a) && s.cv_seen)
   same_so a h = ap (λ (b : Bool). on_of (performed m s a) && b) h
@@ -132,7 +132,7 @@ module _ (m : ℕ) (s : Supply) where
       by_code : (b : Bool) → eqb (code_of m s a) 0 ≡ b → (performed m s a).cv_seen ≡ seen_after m s a
       by_code true e = event a (eqb-true (code_of m s a) 0 e)
       by_code false e =
-          rw (unmoved m s a (eqb-false (code_of m s a) 0 e), refused_other a e, or_false)
+          rw (unmoved m s a (eqb-false (code_of m s a) 0 e), refused_other a e, or-false)
           (sym (seen_only (on_of s) s.cv_seen h))
 
   -- THE CV MEMORY AFTER EVERY ACT

@@ -1,6 +1,6 @@
 -- Only a named release takes a trip away, every named release does, and only a sample sets one.
 use mathlib.Core.Path.{◌≡◌, refl, sym, ap, ◌∙◌}
-use mathlib.Core.Bool.{Bool, true, false, not, ◌&&◌, ◌||◌, false≢true, true≢false, and-eq-true_iff, or_false, or_comm}
+use mathlib.Core.Bool.{Bool, true, false, not, ◌&&◌, ◌||◌, false≢true, true≢false, and-eq-true_iff, or-false, or_comm}
 use Prim.Native.Nat.{ℕ}
 use lib.Dec.{eqb}
 use borrow.Author.Tests.{eqb-true, eq-eqb, le-leb, lt-leb, leb-true, leb-false, not-true}
@@ -32,7 +32,7 @@ use Rattle.acts.proofs.Clearing.{by_query}
 use Rattle.guarantees.specs.Releases.{Trip, fold, ovp, is_set, is_ovp, order_releases, key_releases, releases}
 use Rattle.guarantees.specs.Trips.{SampleMoves, OvpNeeds, FoldNeeds, Needs, SampleTrips, TripSet}
 use Rattle.events.proofs.Cases.{lines_law, disarm_law}
-use Rattle.supply.proofs.FltBits.{want_off_shut, fold_shut, ovp_shut}
+use Rattle.supply.proofs.Shut.{want_off_shut, fold_shut, ovp_shut}
 
 -- if a trip is set, the output is off
 pub shut : (k : Trip) (s : Supply) → is_set k s ≡ true → on_of s ≡ false
@@ -206,13 +206,13 @@ module _ (m : ℕ) (k : Trip) (s : Supply) where
   -- an accepted act leaves a trip unless it releases it, and a sample may set one
   acted_trip : (a : Act) → code_of m s a ≡ 0 → is_set k (acted m s a) ≡ (left (releases m k s a) (is_set k s) || sets m k s a)
   unfolding acted releases code_of
-  acted_trip (Lines b) e = lines_trip b ∙ sym (or_false _)
+  acted_trip (Lines b) e = lines_trip b ∙ sym (or-false _)
   acted_trip (Sample v a) e = sample_trip v a
-  acted_trip (Press j) e = key_trip j ∙ sym (or_false _)
-  acted_trip (Turn t raw) e = knob_trip t raw ∙ sym (or_false _)
-  acted_trip (Obey o) e = order_trip o e ∙ sym (or_false _)
-  acted_trip (Ask q) e = query_same k q s ∙ sym (or_false _)
-  acted_trip Nothing e = sym (or_false _)
+  acted_trip (Press j) e = key_trip j ∙ sym (or-false _)
+  acted_trip (Turn t raw) e = knob_trip t raw ∙ sym (or-false _)
+  acted_trip (Obey o) e = order_trip o e ∙ sym (or-false _)
+  acted_trip (Ask q) e = query_same k q s ∙ sym (or-false _)
+  acted_trip Nothing e = sym (or-false _)
 
   -- a refused order releases nothing and sets nothing
   refused_idle : (a : Act) → eqb (code_of m s a) 0 ≡ false → (releases m k s a ≡ false) × (sets m k s a ≡ false)
@@ -242,7 +242,7 @@ module _ (m : ℕ) (k : Trip) (s : Supply) where
     where
       by_code : (t : Bool) → eqb (code_of m s a) 0 ≡ t → is_set k (pick t (closed a (settled m s (acted m s a))) s) ≡ (left (releases m k s a) (is_set k s) || sets m k s a)
       by_code true e = forgotten_same k (cleared (clearing_act a) (settled m s (acted m s a))) ∙ cleared_same k (clearing_act a) (settled m s (acted m s a)) ∙ settled_same k m s (acted m s a) ∙ acted_trip a (eqb-true (code_of m s a) 0 e)
-      by_code false e = let i = refused_idle a e in rw (i.0, i.1) (sym (or_false _))
+      by_code false e = let i = refused_idle a e in rw (i.0, i.1) (sym (or-false _))
 
   -- only a release takes a trip away
   pub held : (a : Act) → is_set k s ≡ true → releases m k s a ≡ false → is_set k (performed m s a) ≡ true

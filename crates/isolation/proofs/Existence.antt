@@ -7,7 +7,7 @@ use native.Mathlib.Omega.{arith}
 use lib.ListN.{length, drop, replicate, length-replicate}
 use lib.Seq.{take_all}
 use Rattle.wire.specs.Wire.{Call, LawfulWire}
-use Rattle.wire.specs.Rack.{call_of, after, freshRack}
+use Rattle.wire.specs.Rack.{call_of, after, fresh_rack}
 use Rattle.wire.specs.Rack as wire
 use Rattle.wire.specs.declared.Setup.{Setup}
 use Rattle.wire.proofs.Calls.{run_setup}
@@ -80,7 +80,7 @@ some_leads (c ∷ cs) m h =
 -- EVERY LIST OF CALLS HAS A RUN, on the rack of every list that fits
 pub some_run : (l : List ℕ) (calls : List Call) → good_list l ≡ true → (r : Rack) × Run (setup_of l) calls r
 some_run l calls good =
-    let v : wire.Rack Supply = freshRack plain_supply (setup_of l) in
+    let v : wire.Rack Supply = fresh_rack plain_supply (setup_of l) in
     let q = some_leads calls (packed v) (subst Lawful (sym (view_is v)) (fresh_lawful (setup_of l))) in (
       q.0,
       record {

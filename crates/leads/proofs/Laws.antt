@@ -2,7 +2,7 @@
 use mathlib.Core.Path.{◌≡◌, refl, sym, ap, subst}
 use mathlib.Core.Bool.{Bool, true, false, not, ◌&&◌, ◌||◌, false≢true}
 use mathlib.Core.List.{List, [], ◌∷◌, map}
-use Prim.Native.Nat.{ℕ, ◌*◌, ◌<◌, ◌≤◌}
+use Prim.Native.Nat.{ℕ, ◌*◌, ◌<◌}
 use native.Mathlib.Nat.{mul_comm, le_trans, le_of_eq, le_of_lt}
 use lib.Dec.{T, eqb, leb→le, le→leb, nleb→lt, lit<, lit≤}
 use lib.Ieee.{Float, nan, binary64, le, round, to_bits}

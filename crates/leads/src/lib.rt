@@ -1,13 +1,15 @@
 // Layer wiring.
 // The lead adviser: table 2-2 of the manual, how long a lead of a gauge may be, and a gauge for a lead of some length;
 // and both answers as numbers, for programs in C or Rust.
+#![tactic(auto)]
+
 ghost use Rattle.std.specs.Prelude.{◌≡◌, ◌<◌, ◌≤◌};
 ghost use Rattle.leads.specs.Gauges.{row_at, listing_of, in_range, within_limit};
 ghost use Rattle.leads.specs.Longest.{longest_of, no_lead, lead_numbers};
 ghost use Rattle.leads.specs.Advice.{Suitable, named_of, chosen, advice_of, no_gauge, gauge_numbers};
 
 // A row of the table: a gauge, and its resistance in tenths of a milliohm per km.
-#[derive(Drop)]
+#[derive(Clone, Copy)]
 struct Row {
     gauge: u64,
     resistance: u64,
@@ -55,14 +57,14 @@ const MOST_MA: u64 = 150_000;
 const MOST_MM: u64 = 1_000_000;
 
 // What the table has for a gauge: its resistance, or nothing.
-#[derive(Drop)]
+#[derive(Clone, Copy)]
 enum Listing {
     Listed(u64),
     Unlisted,
 }
 
 // The longest lead in metres; or refusal 9, or 10.
-#[derive(Drop)]
+#[derive(Clone, Copy)]
 pub enum Longest {
     Metres(f64),
     NotListed,
@@ -70,7 +72,7 @@ pub enum Longest {
 }
 
 // A gauge that suits; or refusal 10, or 11.
-#[derive(Drop)]
+#[derive(Clone, Copy)]
 pub enum Advice {
     Gauge(u64),
     Outside,
@@ -79,7 +81,7 @@ pub enum Advice {
 
 // The longest lead as numbers: code 0 and the metres, or the refusal and 0.0.
 #[repr(C)]
-#[derive(Drop)]
+#[derive(Clone, Copy)]
 pub struct LongestLead {
     pub code: u8,
     pub metres: f64,
@@ -87,7 +89,7 @@ pub struct LongestLead {
 
 // A gauge as numbers: code 0 and the gauge, or the refusal and 255, which is not listed.
 #[repr(C)]
-#[derive(Drop)]
+#[derive(Clone, Copy)]
 pub struct GaugeFor {
     pub code: u8,
     pub gauge: u64,
@@ -184,9 +186,8 @@ fn no_gauge(code: u8) -> GaugeFor
     GaugeFor { code, gauge: 255 }
 }
 
-// For C and Rust: `longest_lead` as numbers.
-#[unsafe(no_mangle)]
-pub extern "C" fn pu_longest_lead(gauge: u64, ma: u64) -> LongestLead
+// `longest_lead` as numbers.
+pub fn pu_longest_lead(gauge: u64, ma: u64) -> LongestLead
     ensures { result ≡ lead_numbers (longest_of gauge ma) }
 {
     let answer = longest_lead(gauge, ma);
@@ -197,9 +198,8 @@ pub extern "C" fn pu_longest_lead(gauge: u64, ma: u64) -> LongestLead
     }
 }
 
-// For C and Rust: `gauge_for` as numbers.
-#[unsafe(no_mangle)]
-pub extern "C" fn pu_gauge_for(ma: u64, mm: u64) -> GaugeFor
+// `gauge_for` as numbers.
+pub fn pu_gauge_for(ma: u64, mm: u64) -> GaugeFor
     ensures { (result ≡ gauge_numbers (advice_of ma mm result.gauge)) × (Suitable ma mm result.gauge) }
 {
     let answer = gauge_for(ma, mm);

@@ -1,6 +1,8 @@
 // Layer calls.
 // The service messages after a field. Most fields change one slot, so only what that one held is kept; the registers of
 // all slots are kept once a field is about to change another.
+#![tactic(auto)]
+
 ghost use Rattle.std.specs.Prelude.{◌≡◌, false, ◌||◌, [], ◌<◌, eqb, length};
 ghost use Rattle.base.specs.Choice.{pick};
 ghost use Rattle.base.specs.Put.{Put};
@@ -10,7 +12,7 @@ ghost use Rattle.messages.specs.Messages.{sends_by, messages_by, unchanged, foun
 use supply::Supply;
 
 // What a field keeps of what it found: one slot and the registers that it had, and whether others have changed.
-#[derive(Drop)]
+#[derive(Clone, Copy)]
 pub struct Found {
     pub slot: usize,
     pub feve: u8,

@@ -3,7 +3,6 @@ use Prim.Native.Nat.{ℕ, ◌*◌, ◌/◌, ◌%◌, ◌^◌, ◌≤◌, ◌<◌
 use native.Mathlib.Nat.{le_of_lt, mul-le-mul}
 use native.Mathlib.Omega.{arith}
 use Rattle.base.proofs.Table.{Check, lt, le, eq, ◌and◌, everywhere}
-use Rattle.models.proofs.Hundreds.{Hundreds}
 use Rattle.models.specs.declared.Limits.{Limits}
 use Rattle.models.specs.Models.{table, limits_of, no_limits, volt_reading, amp_reading}
 
@@ -16,11 +15,11 @@ Small l =
     and lt l.ovp_most (2 ^ 24)
     and lt l.uvl_most (2 ^ 24)
 
--- both ratings are whole hundreds, which times any count fit in 32 bits, and 105 % of each is a whole number
+-- both ratings are multiples of 100, and 105 % of each is a whole number
 abbrev pub Round : Limits → Check
 Round l =
-    Hundreds l.volts
-    and Hundreds l.amps
+    eq (l.volts % 100) 0
+    and eq (l.amps % 100) 0
     and eq (20 * (l.volts * 21 / 20)) (21 * l.volts)
     and eq (20 * (l.amps * 21 / 20)) (21 * l.amps)
 
@@ -45,12 +44,6 @@ volts_lt m = (rules m).0.0
 
 pub amps_lt : (m : ℕ) → (limits_of m).amps < 2 ^ 24
 amps_lt m = (rules m).0.1.0
-
-pub volts_hundreds : (m : ℕ) → (Hundreds (limits_of m).volts).fact
-volts_hundreds m = (rules m).1.0.0
-
-pub amps_hundreds : (m : ℕ) → (Hundreds (limits_of m).amps).fact
-amps_hundreds m = (rules m).1.0.1.0
 
 pub ovp_most_lt : (m : ℕ) → (limits_of m).ovp_most < 2 ^ 24
 ovp_most_lt m = (rules m).0.1.1.1.0

@@ -1,10 +1,12 @@
 // Layer supply.
 // The twelve models of the supply with five limits each, and readings by model number.
-ghost use Rattle.std.specs.Prelude.{◌≡◌, ◌*◌, ◌/◌, ◌%◌, ◌^◌, ◌<◌};
+#![tactic(auto)]
+
+ghost use Rattle.std.specs.Prelude.{◌≡◌, ◌*◌, ◌/◌};
 ghost use Rattle.models.specs.Models.{limits_of, volt_reading, amp_reading};
 
 // The limits of a model: volts in ticks of 0.1 mV, amperes in mA.
-#[derive(Drop)]
+#[derive(Clone, Copy)]
 pub struct Limits {
     pub volts: u32,
     pub amps: u32,
@@ -14,7 +16,7 @@ pub struct Limits {
 }
 
 // The readings of a sample: volts in ticks of 0.1 mV, amperes in mA.
-#[derive(Drop)]
+#[derive(Clone, Copy)]
 pub struct Readings {
     pub volts: u64,
     pub amps: u64,
@@ -108,6 +110,7 @@ const MODELS: [Limits; 12] = [
 ];
 
 // A row of the table; all 0 for a number that has none.
+#[tactic(auto, unfolding(crate::specs::Models::limits_of, crate::specs::Models::table))]
 fn look_up(model: u8) -> Limits
     ensures { result ≡ limits_of model }
 {
@@ -126,6 +129,7 @@ fn look_up(model: u8) -> Limits
 
 // The limits of a model; all 0 for a number that is no model. The compiler works out a look-up in advance
 // if it knows the number; otherwise it lays out the whole table on the stack each time.
+#[tactic(auto, unfolding(crate::specs::Models::limits_of, crate::specs::Models::table))]
 pub fn limits_of(model: u8) -> Limits
     ensures { result ≡ limits_of model }
 {
@@ -146,16 +150,15 @@ pub fn limits_of(model: u8) -> Limits
     }
 }
 
-// The reading of a count, rounded down to a whole unit; 50,000 counts are the rating. The rating and the 50,000 are
-// divided by 100 first, so that the product fits in 32 bits. The compiler divides the ratings of the table in advance.
+// The reading of a count, rounded down to a whole unit; 50,000 counts are the rating.
 fn reading(count: u16, rating: u32) -> u64
-    requires { (rating % 100 ≡ 0) × (rating / 100 * 65535 < 2 ^ 32) }
     ensures { result ≡ count * rating / 50000 }
 {
-    ((count as u32) * (rating / 100) / 500) as u64
+    (count as u64) * (rating as u64) / 50000
 }
 
 // The volt reading of a count, in ticks.
+#[tactic(auto, unfolding(crate::specs::Models::volt_reading))]
 pub fn volt_reading(model: u8, count: u16) -> u64
     ensures { result ≡ volt_reading model count }
 {
@@ -164,6 +167,7 @@ pub fn volt_reading(model: u8, count: u16) -> u64
 }
 
 // The ampere reading of a count, in mA.
+#[tactic(auto, unfolding(crate::specs::Models::amp_reading))]
 pub fn amp_reading(model: u8, count: u16) -> u64
     ensures { result ≡ amp_reading model count }
 {
@@ -172,6 +176,7 @@ pub fn amp_reading(model: u8, count: u16) -> u64
 }
 
 // Both readings of a sample of two counts, with a single table look-up.
+#[tactic(auto, unfolding(crate::specs::Models::volt_reading, crate::specs::Models::amp_reading))]
 pub fn readings_of(model: u8, v: u16, a: u16) -> Readings
     ensures { (result.volts ≡ volt_reading model v) × (result.amps ≡ amp_reading model a) }
 {

@@ -3,6 +3,8 @@
 // `call` with the shortest reply buffer allowed. It prints what the controller prints. It tries each field first
 // with a buffer that is one byte too short: if that is not refused with 1, or leaves a trace, it prints `wrong`, then
 // `refused 1`, and ends.
+#![tactic(auto)]
+
 ghost use Rattle.std.specs.Prelude.{◌≡◌, true, length};
 ghost use Rattle.slots.specs.View.{Able};
 ghost use Rattle.one_by_one.specs.Called.{Unwritten, OneCall};
@@ -25,7 +27,7 @@ const LIST: usize = 31;
 const LF: u8 = 10;
 
 // A call with a short buffer: the rack that it returned, and whether it was refused as it should be.
-#[derive(Drop)]
+#[derive(Clone, Copy)]
 struct Tried {
     rack: Rack,
     right: bool,
@@ -100,7 +102,7 @@ fn take_field(r: Rack, s: &[u8], out: &mut [u8]) -> Answer
 
 // Works the input field by field and writes the replies of each, until the input ends, a field is refused or a fault
 // occurs; returns the number of the refusal, or 0.
-fn take_input(r: Rack, room: &mut [u8], out: &mut [u8]) -> u8
+fn take_input(rt: &HostRuntime, r: Rack, room: &mut [u8], out: &mut [u8]) -> u8
     requires { Able r × (length out.old ≡ 512) × (length room.old ≡ 8192) }
 {
     let mut rack = r;
@@ -109,21 +111,21 @@ fn take_input(r: Rack, room: &mut [u8], out: &mut [u8]) -> u8
     let mut sent = true;
     let mut more = true;
     while more {
-        block = stream::refill(room, block, code);
+        block = stream::refill(rt, room, block, code);
         let there = base::part_to(room, block.end);
         let a = take_field(rack, base::part_from(there, block.from), out);
         rack = a.rack;
         code = a.code;
-        sent = console::write_out(base::part_to(out, a.length));
+        sent = console::write_out(rt, base::part_to(out, a.length));
         block.from += a.used;
         more = stream::goes_on(sent, code, console::waits(code), block);
     }
     stream::told_at_end(sent, code, block)
 }
 
-fn main() {
+fn main(rt: HostRuntime) {
     let mut list = [0u8; LIST];
-    let got = console::read_full(&mut list);
+    let got = console::read_full(&rt, &mut list);
     if got.failed {
         return;
     }
@@ -132,9 +134,9 @@ fn main() {
     if code == 0 {
         let mut room = console::buffer();
         let mut out = [UNWRITTEN; LEAST];
-        code = take_input(fitted.rack, &mut room, &mut out);
+        code = take_input(&rt, fitted.rack, &mut room, &mut out);
     }
     if code != 0 {
-        console::say_refusal(code);
+        console::say_refusal(&rt, code);
     }
 }

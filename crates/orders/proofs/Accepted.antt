@@ -26,3 +26,8 @@ module _ (m : ℕ) (s : Supply) where
     pub accepted : code ≡ 0 → ordered m s o ≡ after_order m s o
     unfolding after_order
     accepted e = sym (pick_true _ _ _ (eq-eqb (order_code m s o) 0 (sym is ∙ e)))
+
+  -- an accepted figure, once stored, makes the supply that the order leaves
+  pub taken : (t : Target) (n : ℕ) → order_code m s (Set t n) ≡ 0
+      → remote_by t (with_setting t (n % 0x100000000) s) ≡ after_order m s (Set t n)
+  taken t n e = stored t n e ∙ accepted (Set t n) refl e

@@ -1,5 +1,7 @@
 // Layer supply.
 // What an order does to a supply: its error code, and its effect if it is accepted.
+#![tactic(auto)]
+
 ghost use Rattle.std.specs.Prelude.{◌≡◌, ◌%◌, eqb};
 ghost use Rattle.std.specs.Int.Bits.{bit_and};
 ghost use Rattle.base.specs.Choice.{pick};
@@ -18,6 +20,7 @@ fn remote_mode(mode: u8) -> u8
     if mode == 0 { 1 } else { mode }
 }
 
+#[tactic(auto, unfolding(crate::specs::Orders::remote))]
 fn to_remote(s: Supply) -> Supply
     ensures { result ≡ remote s }
 {
@@ -29,6 +32,7 @@ fn to_remote(s: Supply) -> Supply
 
 // Stores the low 32 bits of a figure, which are all of it if it is accepted; PV and PC also take remote control. One
 // match does both, so that the record is written once.
+#[tactic(auto, unfolding(crate::specs::Orders::remote, crate::specs::Orders::remote_by, settings::specs::Settings::with_setting))]
 fn put_setting(s: Supply, t: Target, n: u64) -> Supply
     ensures { result ≡ remote_by t (with_setting t (n % 0x100000000) s) }
 {
@@ -58,6 +62,7 @@ fn put_setting(s: Supply, t: Target, n: u64) -> Supply
 }
 
 // Turns WANT on and releases the trips, or turns WANT off and keeps the trips.
+#[tactic(auto, unfolding(crate::specs::Orders::out_done))]
 fn put_out(s: Supply, on: bool) -> Supply
     ensures { result ≡ out_done on s }
 {
@@ -70,6 +75,7 @@ fn put_out(s: Supply, on: bool) -> Supply
     }
 }
 
+#[tactic(auto, unfolding(crate::specs::Orders::fld_done))]
 fn put_fld(s: Supply, on: bool) -> Supply
     ensures { result ≡ fld_done on s }
 {
@@ -81,6 +87,7 @@ fn put_fld(s: Supply, on: bool) -> Supply
     if s.armed { events::disarm(s) } else { s }
 }
 
+#[tactic(auto, unfolding(crate::specs::Orders::reset))]
 fn reset_supply(model: u8, s: Supply) -> Supply
     ensures { result ≡ reset model s }
 {
@@ -136,6 +143,7 @@ fn put_sena(s: Supply, b: u8) -> Supply
 }
 
 // What an accepted order does. `order_done` gives figures to `set_done`, so their arm only completes the match.
+#[tactic(auto, using(crate::proofs::Accepted::stored), unfolding(crate::specs::Orders::ordered))]
 fn carried_out(model: u8, s: Supply, o: Order) -> Supply
     requires { order_code model s o ≡ 0 }
     ensures { result ≡ ordered model s o }
@@ -155,6 +163,7 @@ fn carried_out(model: u8, s: Supply, o: Order) -> Supply
 }
 
 // A figure for a setting: its error code, and the supply after it.
+#[tactic(auto, using(crate::proofs::Accepted::taken, crate::proofs::Accepted::refused), unfolding(codes::specs::Codes::order_code))]
 pub fn set_done(model: u8, s: Supply, t: Target, n: u64) -> Outcome
     ensures { (result.code ≡ order_code model s (Order.Set t n))
         × (result.supply ≡ after_order model s (Order.Set t n)) }
@@ -169,6 +178,7 @@ pub fn set_done(model: u8, s: Supply, t: Target, n: u64) -> Outcome
 
 // An order: its error code, and the supply after it. It covers figures too, though `acts` gives those to `set_done`
 // itself.
+#[tactic(auto, using(crate::proofs::Accepted::refused, crate::proofs::Accepted::accepted))]
 pub fn order_done(model: u8, s: Supply, o: Order) -> Outcome
     ensures { (result.code ≡ order_code model s o) × (result.supply ≡ after_order model s o) }
 {

@@ -4,7 +4,7 @@ use Rattle.base.specs.Choice.{pick}
 use Rattle.figures.specs.declared.Number.{Number}
 use Rattle.figures.specs.Digits.{all_digits, run_value}
 use Rattle.figures.specs.Number.{read_number, number_is, no_number}
-use Rattle.hex.specs.Hex.{read_hex}
+use Rattle.hexadecimal.specs.Hex.{read_hex}
 use Rattle.supply.specs.State.{c05}
 use Rattle.parameters.specs.declared.Parameter.{Parameter}
 

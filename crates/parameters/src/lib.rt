@@ -1,5 +1,7 @@
 // Layer line.
 // The parameter of a line: absent, malformed, or a value of the kind that its word takes.
+#![tactic(auto)]
+
 ghost use Rattle.std.specs.Prelude.{◌≡◌, ◌<◌, ◌≤◌};
 ghost use Rattle.figures.specs.declared.Number.{Number};
 ghost use Rattle.parameters.specs.Parameters.{bare, number, switch, hex, address, read_address, read_switch, needed, parameter_of};
@@ -113,7 +115,7 @@ pub fn switch_parameter(x: &[u8], most: u8) -> Parameter
 pub fn hex_parameter(x: &[u8]) -> Parameter
     ensures { (result ≡ parameter_of hex x.now) × (result.value < 256) }
 {
-    need(hex::read_hex(x), x)
+    need(hexadecimal::read_hex(x), x)
 }
 
 // A required address; above 30 it draws C05.

@@ -1,12 +1,14 @@
 // Layer rack.
 // The values in a field's payload: whether they are listed, and what they ask of a supply. Nothing here knows the rack.
+#![tactic(auto)]
+
 ghost use Rattle.std.specs.Prelude.{◌≡◌, ◌<◌};
 ghost use Rattle.field.specs.Fields.{pair_at, quad_at, is_sample, values_fit, press_of, turn_of, act_of};
 
 use supply::{Act, Key, Target};
 
 // The two counts of a sample.
-#[derive(Drop)]
+#[derive(Clone, Copy)]
 pub struct Counts {
     pub volts: u16,
     pub amps: u16,
@@ -21,6 +23,7 @@ fn quad_at(s: &[u8], i: usize) -> u32
 }
 
 // Whether the bytes begin with a complete sample.
+#[tactic(auto, unfolding(field::specs::Fields::is_sample))]
 pub fn is_sample(b: &[u8]) -> bool
     ensures { result ≡ is_sample b.now }
 {
@@ -41,6 +44,7 @@ pub fn sample_counts(b: &[u8]) -> Counts
 }
 
 // Whether the key, target or LINES of a field has one of the listed values.
+#[tactic(auto, unfolding(field::specs::Fields::values_fit))]
 pub fn values_fit(tag: u8, p: &[u8]) -> bool
     ensures { result ≡ values_fit tag p.now }
 {
@@ -54,6 +58,7 @@ pub fn values_fit(tag: u8, p: &[u8]) -> bool
 }
 
 // A press of the key with this number.
+#[tactic(auto, unfolding(field::specs::Fields::press_of))]
 fn press_of(n: u8) -> Act
     ensures { result ≡ press_of n }
 {
@@ -66,6 +71,7 @@ fn press_of(n: u8) -> Act
 }
 
 // The knob turned for the target with this number.
+#[tactic(auto, unfolding(field::specs::Fields::turn_of))]
 fn turn_of(n: u8, step: u32) -> Act
     ensures { result ≡ turn_of n step }
 {
@@ -79,6 +85,7 @@ fn turn_of(n: u8, step: u32) -> Act
 }
 
 // What a field of tags 2 to 5 asks of its supply.
+#[tactic(auto, unfolding(field::specs::Fields::act_of))]
 pub fn act_of(tag: u8, p: &[u8]) -> Act
     ensures { result ≡ act_of tag p.now }
 {

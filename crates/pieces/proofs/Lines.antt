@@ -16,7 +16,7 @@ use Rattle.base.specs.Lists.{each_to}
 use Rattle.base.proofs.Lists.{set_same}
 use Rattle.base.proofs.Put.{put_none}
 use Rattle.wire.specs.declared.Setup.{Setup}
-use Rattle.wire.specs.Wire.{Sent, byte, accept, fitted, quiet, followed, scan, char_on, byteOn}
+use Rattle.wire.specs.Wire.{Sent, byte, accept, fitted, quiet, followed, scan, char_on, byte_on}
 use Rattle.wire.proofs.ForCode.{scan_more}
 use Rattle.supply.specs.declared.Supply.{Supply}
 use Rattle.supply.specs.declared.Order.TheVariants.{Cls}
@@ -42,8 +42,8 @@ feed_within p i r (inr e) h = (omega (arith, e.0), omega (arith, e.0, e.1))
 
 -- an LF after serial bytes changes nothing
 module _ (u : Setup) (l : Line) (p : List ℕ) (i : ℕ) (h : i < length p) (lf : get_or p i 0 ≡ 10) where
-  feed_quiet : (s : Sent) → followed s (byteOn grammar u s.wire 10) ≡ s
-  unfolding byteOn char_on
+  feed_quiet : (s : Sent) → followed s (byte_on grammar u s.wire 10) ≡ s
+  unfolding byte_on char_on
   feed_quiet s = rw append-nil refl
 
   feed_sent : scan grammar u (wire_of l) (map byte (take (i + 1) p)) ≡ scan grammar u (wire_of l) (map byte (take i p))
@@ -88,7 +88,7 @@ module _ (u : Setup) (l : Line) (s : Supply) (p : List ℕ) (head : ℕ) (b : Li
     ends ss = ended_by (rack_is ss m u)
 
     ends_with : (t : Typing l p j m) (ss : List Supply) → scan grammar u (wire_of l) (map byte (take (j + 1) p)) ≡ followed (quiet (wire_of m)) (ends ss)
-    unfolding byteOn
+    unfolding byte_on
     ends_with t ss =
         rw (add-one, take-suc p j 0 less, d.stops less, map-append byte (take j p) (13 ∷ []), scan_more grammar u (wire_of l) (map byte (take j p)) (byte 13), t.scans grammar u) refl
 

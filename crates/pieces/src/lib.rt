@@ -1,6 +1,8 @@
 // Layer calls.
 // A piece of a field that consists of serial bytes: up to the end of a line or of their field. It needs only the line
 // and one supply, not the rack.
+#![tactic(auto)]
+
 ghost use Rattle.std.specs.Prelude.{◌≡◌, true, false, ◌≤◌, ◌<◌, length};
 ghost use Rattle.supply.specs.declared.Order.TheVariants.{Cls};
 ghost use Rattle.serial.specs.View.{line_of};
@@ -14,7 +16,7 @@ use wire::Setup;
 // What a piece leaves: how many characters the line keeps, whether it is spoiled and which slot is selected; the supply
 // of the slot that the piece reaches; the index after its reply, how many bytes it used, how many bytes of its field
 // are left, and possibly an order for all. Or the number of a refusal, with everything as it was.
-#[derive(Drop)]
+#[derive(Clone, Copy)]
 pub struct Piece {
     pub count: usize,
     pub spoiled: bool,

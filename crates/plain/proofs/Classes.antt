@@ -2,7 +2,7 @@
 use Prim.Native.Nat.{ℕ, ◌≤◌}
 use mathlib.Core.Path.{◌≡◌, refl, sym, ap, ◌∙◌}
 use mathlib.Core.List.{List, [], ◌∷◌}
-use mathlib.Core.Bool.{Bool, true, false, not, ◌&&◌, ◌||◌, true≢false, false≢true}
+use mathlib.Core.Bool.{Bool, true, false, not, ◌&&◌, ◌||◌, true≢false}
 use native.Mathlib.Omega.{arith}
 use lib.Dec.{eqb, ltb}
 use lib.ListN.{length}
@@ -10,10 +10,9 @@ use lib.Seq.{take-nil}
 use borrow.Author.Tests.{eqb-true, ltb-false}
 use Rattle.base.specs.Choice.{pick}
 use Rattle.base.proofs.Choice.{pick_keeps}
-use Rattle.words.specs.Words.{upper_all, is_one_of, findWord}
+use Rattle.words.specs.Words.{upper_all, is_one_of, find_word}
 use Rattle.words.proofs.Table.{find_where}
 use Rattle.wire.specs.Wire.{Class, select, faulty, global, other}
-use Rattle.supply.specs.declared.Supply.{Supply}
 use Rattle.supply.specs.declared.Act.TheVariants.{Nothing}
 use Rattle.supply.specs.State.{c05}
 use Rattle.parameters.specs.declared.Parameter.{Parameter}
@@ -26,42 +25,20 @@ use Rattle.asks.specs.Words.{commands, command_of, asked_by}
 use Rattle.asks.specs.Asked.{word_of}
 use Rattle.command.specs.Lines.{has_checksum, right_checksum, heard_of}
 use Rattle.texts.specs.Texts.{code_text, reply_of}
-use Rattle.protocol.specs.Sent.{replied_to}
 use Rattle.protocol.specs.Verdicts.{Stage, first_of, body_of, word_in, command_in, given_in, is_unknown, is_absent, is_malformed, is_beyond}
 use Rattle.protocol.specs.Verdicts.{has_wrong_checksum, draws_checksum, value_of}
 use Rattle.protocol.proofs.Verdicts.{verdicts, checksummed_when}
 use Rattle.plain.specs.Plain.{class_by, class_of}
 use Rattle.plain.specs.Classes.{adr_word, global_words, class_for, Classes}
 use Rattle.plain.proofs.Heard.{heard_has}
+use Rattle.plain.proofs.OwnReplies.{bytes_of, is_own, own_reply}
 
--- the bytes of a class, and what distinguishes the classes
-abbrev bytes_of : Class → List ℕ
-bytes_of (select n t) = t
-bytes_of (faulty t) = t
-bytes_of global = []
-bytes_of other = []
-
+-- the address that a class selects
 abbrev address_of : Class → ℕ
 address_of (select n t) = n
 address_of (faulty t) = 0
 address_of global = 0
 address_of other = 0
-
-abbrev is_own : Class → Bool
-is_own (select n t) = true
-is_own (faulty t) = true
-is_own global = false
-is_own other = false
-
--- a class with bytes of its own has those of the reply to what the line asks
-own_reply : (m : ℕ) (s : Supply) (t : Bool) (a : Asks) → is_own (class_by a t) ≡ true → bytes_of (class_by a t) ≡ replied_to m s a t
-unfolding replied_to
-own_reply m s t (Select n) e = refl
-own_reply m s t (BadSelect c) e = refl
-own_reply m s t Nobody e = refl
-own_reply m s t (Everyone o) e = absurd (false≢true e)
-own_reply m s t (One a) e = absurd (false≢true e)
-own_reply m s t (Error c) e = absurd (false≢true e)
 
 -- a line that selects asks for an address of the rack
 abbrev selects_inside : Asks → Type 0
@@ -136,7 +113,7 @@ global_word w = find_where unknown_word reaches_all refl commands refl w
 
 -- an empty line has no word
 empty_word : (u : List ℕ) → is_empty u ≡ true → command_of (upper_all (word_of u)) ≡ unknown_word
-unfolding findWord
+unfolding find_word
 empty_word [] e = rw take-nil refl
 empty_word (x ∷ u) e = let z : length (x ∷ u) ≡ 0 = eqb-true (length (x ∷ u)) 0 e in absurd (omega arith)
 
@@ -176,8 +153,8 @@ first_has P (e ∷ es) a h p = pick_keeps P e.0 e.1 (first_of es a) h.0 (first_h
 
 module _ (x : List ℕ) (s : Bool) where
   -- the stages of a command from the empty line on, and what is asked if none applies
-  abbrev laterStages : Bool → Command → List Stage
-  laterStages e k =
+  abbrev later_stages : Bool → Command → List Stage
+  later_stages e k =
       (e, One Nothing) ∷
       (is_unknown (kind_of k), fails_with k c01) ∷
       (is_absent (kind_of k) x, fails_with k c02) ∷
@@ -185,30 +162,30 @@ module _ (x : List ℕ) (s : Bool) where
       (is_beyond (kind_of k) x, fails_with k c05) ∷
       []
 
-  abbrev asksThen : Command → Asks
-  asksThen k = asks_with k (value_of (kind_of k) x)
+  abbrev asks_then : Command → Asks
+  asks_then k = asks_with k (value_of (kind_of k) x)
 
   -- what an ADR must be, and what a global must be
-  abbrev adrWith : Command → Class
-  adrWith k =
+  abbrev adr_with : Command → Class
+  adr_with k =
       pick (is_absent (kind_of k) x) (faulty (reply_of s (code_text c02)))
       (pick (is_malformed (kind_of k) x) (faulty (reply_of s (code_text c03)))
       (pick (is_beyond (kind_of k) x) (faulty (reply_of s (code_text c05)))
       (select (value_of (kind_of k) x) (reply_of s (code_text 0)))))
 
-  abbrev globalWith : Command → Class
-  globalWith k = pick (is_absent (kind_of k) x || is_malformed (kind_of k) x) (faulty []) global
+  abbrev global_with : Command → Class
+  global_with k = pick (is_absent (kind_of k) x || is_malformed (kind_of k) x) (faulty []) global
 
-  to_one_lem : (e : Bool) (k : Command) → EachHas (λ a. class_by a s ≡ other) (laterStages e k)
-      → class_by (asksThen k) s ≡ other → class_by (first_of (laterStages e k) (asksThen k)) s ≡ other
-  to_one_lem e k h p = first_has (λ a. class_by a s ≡ other) (laterStages e k) (asksThen k) h p
+  to_one_lem : (e : Bool) (k : Command) → EachHas (λ a. class_by a s ≡ other) (later_stages e k)
+      → class_by (asks_then k) s ≡ other → class_by (first_of (later_stages e k) (asks_then k)) s ≡ other
+  to_one_lem e k h p = first_has (λ a. class_by a s ≡ other) (later_stages e k) (asks_then k) h p
 
   to_all_lem : (o : OrderWord) (a m : Bool)
       → class_by
       (pick (is_unknown (kind_of_order o)) (fails_with (to_all o) c01)
       (pick a (fails_with (to_all o) c02)
       (pick m (fails_with (to_all o) c03)
-      (pick (is_beyond (kind_of_order o) x) (fails_with (to_all o) c05) (asksThen (to_all o)))))) s
+      (pick (is_beyond (kind_of_order o) x) (fails_with (to_all o) c05) (asks_then (to_all o)))))) s
       ≡ pick (a || m) (faulty []) global
   to_all_lem o true m = rw (order_known o) refl
   to_all_lem o false true = rw (order_known o) refl
@@ -216,7 +193,7 @@ module _ (x : List ℕ) (s : Bool) where
 
   to_select : (a m b : Bool)
       → class_by
-      (pick a (fails_with selecting c02) (pick m (fails_with selecting c03) (pick b (fails_with selecting c05) (asksThen selecting)))) s
+      (pick a (fails_with selecting c02) (pick m (fails_with selecting c03) (pick b (fails_with selecting c05) (asks_then selecting)))) s
       ≡ pick a (faulty (reply_of s (code_text c02)))
       (pick m (faulty (reply_of s (code_text c03)))
       (pick b (faulty (reply_of s (code_text c05)))
@@ -228,8 +205,8 @@ module _ (x : List ℕ) (s : Bool) where
 
   abbrev Classed : Command → Bool → Type 0
   Classed k e =
-      class_by (first_of (laterStages e k) (asksThen k)) s
-      ≡ pick (selects k) (adrWith k) (pick (reaches_all k) (globalWith k) other)
+      class_by (first_of (later_stages e k) (asks_then k)) s
+      ≡ pick (selects k) (adr_with k) (pick (reaches_all k) (global_with k) other)
 
   classed : (k : Command) (e : Bool) → (e ≡ true → k ≡ unknown_word) → Classed k e
   classed (to_one o) e h = to_one_lem e (to_one o) (refl, (refl, (refl, (refl, (refl, tt))))) refl
@@ -242,9 +219,9 @@ module _ (x : List ℕ) (s : Bool) where
 
   -- a line that is spoiled or has a wrong checksum goes to the selected slot, whatever its word
   any_classed : (spoiled wrong e : Bool) (k : Command) → Classed k e
-      → class_by (first_of ((spoiled, Error c01) ∷ (wrong, Error c04) ∷ laterStages e k) (asksThen k)) s
-      ≡ pick ((not spoiled && not wrong) && selects k) (adrWith k)
-      (pick ((not spoiled && not wrong) && reaches_all k) (globalWith k) other)
+      → class_by (first_of ((spoiled, Error c01) ∷ (wrong, Error c04) ∷ later_stages e k) (asks_then k)) s
+      ≡ pick ((not spoiled && not wrong) && selects k) (adr_with k)
+      (pick ((not spoiled && not wrong) && reaches_all k) (global_with k) other)
   any_classed true wrong e k h = refl
   any_classed false true e k h = refl
   any_classed false false e k h = h

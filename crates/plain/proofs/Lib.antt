@@ -1,5 +1,6 @@
 pub mod Isolation
 pub mod Heard
+pub mod OwnReplies
 pub mod Classes
 pub mod Unaddressed
 pub mod Shares

@@ -1,7 +1,7 @@
 -- The CV memory over whole lists of entries, from what each entry makes of it.
 use Prim.Native.Nat.{ℕ}
 use mathlib.Core.Path.{◌≡◌, refl, sym, ap, ◌∙◌}
-use mathlib.Core.Bool.{Bool, true, false, not, ◌&&◌, ◌||◌, false≢true, true≢false, and-eq-true_iff, or_false, or_comm}
+use mathlib.Core.Bool.{Bool, true, false, not, ◌&&◌, ◌||◌, false≢true, true≢false, and-eq-true_iff, or-false, or_comm}
 use mathlib.Core.Logic.{◌⊎◌, inl, inr, ⊎_elim}
 use mathlib.Core.List.{List, [], ◌∷◌, foldl, foldl-append}
 use lib.Dec.{leb, eqb}
@@ -112,7 +112,7 @@ After s below t = t.cv_seen ≡ (on_of t && (s.cv_seen || below))
 
 module _ (m : ℕ) (s : Supply) (h : SeenOn s) where
   untouched : After s false s
-  untouched = rw or_false (sym (seen_only (on_of s) s.cv_seen h))
+  untouched = rw or-false (sym (seen_only (on_of s) s.cv_seen h))
 
   obeyed_after : (a : Asks) → NoSample m s a → After s false (obeyed m s a)
   unfolding obeyed

@@ -12,7 +12,7 @@ use Rattle.wire.specs.Share.{Arrival, ended, came, stream, arrivals, handed, sel
 use Rattle.wire.proofs.Machine.{flat_append}
 use Rattle.plain.specs.Plain.{class_of, grammar}
 use Rattle.plain.specs.Classes.{is_adr, is_global, is_c02, is_c03, is_c05, address_in, class_for}
-use Rattle.plain.specs.Shares.{takes, selectedAfter, entriesOf, shareFor}
+use Rattle.plain.specs.Shares.{takes, selected_after, entries_of, share_for}
 use Rattle.plain.proofs.Classes.{class_for_lem}
 
 given_alone : (b : Bool) (e : Entry) → given b e ++ [] ≡ given b e
@@ -49,7 +49,7 @@ module _ (u : Setup) where
       by_tests n t₂ t₃ t₅ t₀ false false c2 c3 c5 = to_one (fitted u sel)
 
   line_selects : (sel : ℕ) (kept : List ℕ) (spoiled : Bool)
-      → selected u sel (class_for kept spoiled) ≡ selectedAfter u sel kept spoiled
+      → selected u sel (class_for kept spoiled) ≡ selected_after u sel kept spoiled
   line_selects sel kept spoiled = by_tests (address_in kept) _ _ _ _
       (is_adr kept spoiled) (is_global kept spoiled) (is_c02 kept) (is_c03 kept) (is_c05 kept)
     where
@@ -65,7 +65,7 @@ module _ (u : Setup) where
       by_tests n t₂ t₃ t₅ t₀ false true false false c5 = refl
       by_tests n t₂ t₃ t₅ t₀ false false c2 c3 c5 = refl
 
-  entries_routed : (a sel : ℕ) (ps : List Arrival) → flat (for_slot u a) (routes grammar u sel ps) ≡ entriesOf u a sel ps
+  entries_routed : (a sel : ℕ) (ps : List Arrival) → flat (for_slot u a) (routes grammar u sel ps) ≡ entries_of u a sel ps
   entries_routed a sel [] = refl
   entries_routed a sel (came b e ∷ ps) = ap (λ (es : List Entry). given (eqb a b) e ++ es) (entries_routed a sel ps)
   entries_routed a sel (ended t ∷ ps) =
@@ -82,6 +82,6 @@ module _ (u : Setup) where
       refl
 
   -- THE SHARE, by the characters of its lines
-  pub share_by_characters : (calls : List Call) (a : ℕ) → share_of grammar u calls a ≡ shareFor u calls a
+  pub share_by_characters : (calls : List Call) (a : ℕ) → share_of grammar u calls a ≡ share_for u calls a
   unfolding brought
   share_by_characters calls a = entries_routed a nobody (arrivals [] (stream grammar u calls))

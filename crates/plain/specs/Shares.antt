@@ -20,20 +20,20 @@ module _ (u : Setup) where
 
   -- which slot is selected after it: the one that an ADR names, or nobody if that slot is empty; an ADR in error
   -- changes nothing
-  abbrev pub selectedAfter : ℕ → List ℕ → Bool → ℕ
-  selectedAfter sel kept spoiled =
+  abbrev pub selected_after : ℕ → List ℕ → Bool → ℕ
+  selected_after sel kept spoiled =
       pick (is_adr kept spoiled && not (is_c02 kept || (is_c03 kept || is_c05 kept)))
       (pick (fitted u (address_in kept)) (address_in kept) nobody)
       sel
 
   -- the entries of an address among the lines and other fields of a stream, in order
-  abbrev pub entriesOf : ℕ → ℕ → List Arrival → List Entry
-  entriesOf a sel [] = []
-  entriesOf a sel (came b e ∷ ps) = given (eqb a b) e ++ entriesOf a sel ps
-  entriesOf a sel (ended t ∷ ps) =
+  abbrev pub entries_of : ℕ → ℕ → List Arrival → List Entry
+  entries_of a sel [] = []
+  entries_of a sel (came b e ∷ ps) = given (eqb a b) e ++ entries_of a sel ps
+  entries_of a sel (ended t ∷ ps) =
       given (takes a sel t.kept t.spoiled) (line t.kept t.spoiled) ++
-      entriesOf a (selectedAfter sel t.kept t.spoiled) ps
+      entries_of a (selected_after sel t.kept t.spoiled) ps
 
   -- the share for a list of calls; in a fresh rack nobody is selected
-  abbrev pub shareFor : List Call → ℕ → List Entry
-  shareFor calls a = entriesOf a nobody (arrivals [] (stream grammar u calls))
+  abbrev pub share_for : List Call → ℕ → List Entry
+  share_for calls a = entries_of a nobody (arrivals [] (stream grammar u calls))

@@ -1,6 +1,6 @@
 -- When each answer is given, that its figures are the nearest floats, and its numbers.
-use Prim.Native.Nat.{ℕ, ◌*◌, ◌≤◌, ◌<◌, ◌^◌}
-use mathlib.Core.Path.{◌≡◌, refl, sym, ap}
+use Prim.Native.Nat.{ℕ, ◌*◌, ◌≤◌, ◌^◌}
+use mathlib.Core.Path.{refl, sym, ap}
 use mathlib.Core.Logic.{⊎_elim}
 use native.Mathlib.Omega.{arith}
 use lib.Dec.{lit<}

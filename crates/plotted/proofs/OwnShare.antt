@@ -10,7 +10,7 @@ use borrow.Author.Tests.{ltb-true, ltb-false, eqb-true, eqb-false, not-true, not
 use Rattle.base.proofs.Table.{and_left}
 use Rattle.wire.specs.declared.Setup.{Setup}
 use Rattle.wire.specs.Wire.{Call, model_at, fitted}
-use Rattle.wire.specs.Rack.{freshRack}
+use Rattle.wire.specs.Rack.{fresh_rack}
 use Rattle.wire.specs.Rack as wire
 use Rattle.wire.proofs.Calls.{run_setup}
 use Rattle.wire.proofs.ForCode.{model_past}
@@ -29,7 +29,7 @@ module _ (u : Setup) (calls : List Call) (r : Rack) (g : Run u calls r) where
   setup_kept : r.setup ≡ u
   setup_kept =
       ap (λ (q : wire.Rack Supply). q.setup) (run_seen u calls r g).is
-      ∙ run_setup plain_supply (freshRack plain_supply u) calls
+      ∙ run_setup plain_supply (fresh_rack plain_supply u) calls
 
   long : length u.models ≡ 31
   long =

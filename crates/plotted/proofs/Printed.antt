@@ -12,7 +12,7 @@ use Rattle.prints.proofs.RoundTrip.{read_short}
 use Rattle.models.specs.Models.{volt_reading, amp_reading}
 use Rattle.models.proofs.Rules.{volts_small, amps_small}
 use Rattle.supply.specs.Flt.{on_of}
-use Rattle.words.specs.Words.{findWord}
+use Rattle.words.specs.Words.{find_word}
 use Rattle.parameters.specs.Parameters.{parameter_of}
 use Rattle.asks.specs.Words.{asked_by}
 use Rattle.asks.specs.Asked.{asks_of}
@@ -37,7 +37,7 @@ switch_printed false = refl
 pub as_printed : (r : Rack) (a : ℕ) → a ≤ 30 → (model_at r.setup a ≡ 255 → ⊥) → CountsFit (supply_at r a)
     → AsPrinted r a (volt_reading (model_at r.setup a) (supply_at r a).volt_count)
     (amp_reading (model_at r.setup a) (supply_at r a).amp_count) (on_of (supply_at r a))
-unfolding reply_to heard_of asks_of asked_by parameter_of findWord first_at replied_to said_of ending answer_of answer_text cell_of
+unfolding reply_to heard_of asks_of asked_by parameter_of find_word first_at replied_to said_of ending answer_of answer_text cell_of
 as_printed r a h n fit =
     let m = model_at r.setup a in
     let s = supply_at r a in

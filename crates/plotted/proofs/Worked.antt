@@ -18,11 +18,11 @@ use Rattle.codes.specs.Codes.{set_code, order_code}
 use Rattle.orders.specs.Orders.{remote, remote_by, out_done, ordered}
 use Rattle.acts.specs.Acts.{code_of, after_query, clearing_order, clearing_act, acted, performed}
 use Rattle.answers.specs.Answers.{answer_of}
-use Rattle.words.specs.Words.{findWord}
+use Rattle.words.specs.Words.{find_word}
 use Rattle.parameters.specs.Parameters.{read_as, parameter_of}
 use Rattle.asks.specs.Words.{asked_by}
 use Rattle.asks.specs.Asked.{asks_of}
-use Rattle.command.specs.Lines.{right_checksum, heard_of}
+use Rattle.command.specs.Lines.{heard_of}
 use Rattle.texts.specs.Texts.{answer_text, ending}
 use Rattle.reply.specs.Obeying.{said_of}
 use Rattle.protocol.specs.Sent.{obeyed, replied_to}
@@ -32,7 +32,7 @@ use Rattle.resistance.specs.Cells.{resistance_of, metered_of, cell_of}
 use Rattle.plotted.specs.Worked.{supply_after, cell_after, in_use, turned_off, then_on, Worked}
 
 pub worked : Worked
-unfolding supply_after cell_after in_use turned_off then_on round to_bits rounded resistance_of metered_of cell_of step_of reply_to act_of obeyed replied_to said_of answer_text ending heard_of asks_of asked_by parameter_of read_as findWord answer_of performed acted after_query clearing_order clearing_act code_of ordered out_done remote remote_by order_code set_code sampled turned_on with_setting setting_of settled cv_forgotten seve_gained feve_gained stat_of on_of lines_clear in_limit flt_of fresh figure decimals shortest fixed read_number scaled_value whole_units well_formed first_at run_value all_digits volt_reading amp_reading limits_of table
+unfolding supply_after cell_after in_use turned_off then_on round to_bits rounded resistance_of metered_of cell_of step_of reply_to act_of obeyed replied_to said_of answer_text ending heard_of asks_of asked_by parameter_of read_as find_word answer_of performed acted after_query clearing_order clearing_act code_of ordered out_done remote remote_by order_code set_code sampled turned_on with_setting setting_of settled cv_forgotten seve_gained feve_gained stat_of on_of lines_clear in_limit flt_of fresh figure decimals shortest fixed read_number scaled_value whole_units well_formed first_at run_value all_digits volt_reading amp_reading limits_of table
 worked =
     record {
       ohms = refl;

@@ -13,7 +13,7 @@ use Rattle.base.proofs.Choice.{pick_keeps}
 use Rattle.models.specs.Models.{volt_reading, amp_reading}
 use Rattle.models.proofs.Rules.{volts_small, amps_small}
 use Rattle.prints.specs.Figure.{figure}
-use Rattle.hex.specs.Hex.{hex_pair}
+use Rattle.hexadecimal.specs.Hex.{hex_pair}
 use Rattle.prints.proofs.Print.{length_figure}
 use Rattle.words.specs.Words.{upper, upper_all}
 use Rattle.words.proofs.Table.{find_passes}

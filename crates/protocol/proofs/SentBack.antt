@@ -12,7 +12,7 @@ use Rattle.figures.specs.Number.{first_at}
 use Rattle.prints.specs.Figure.{fixed, shortest, decimals, figure}
 use Rattle.prints.proofs.Print.{length_fixed}
 use Rattle.prints.proofs.RoundTrip.{read_short}
-use Rattle.words.specs.Words.{findWord}
+use Rattle.words.specs.Words.{find_word}
 use Rattle.models.specs.Models.{limits_of}
 use Rattle.supply.specs.declared.Supply.{Supply}
 use Rattle.supply.specs.declared.Target.{Target}
@@ -84,7 +84,7 @@ number_asked t k v h l =
     rw (read_short (suc k) v h l, ne_eqb (length (figure (suc k) v)) 0 (λ e. omega (arith, figure_length k v))) refl
 
 read_back : (m : ℕ) (s : Supply) (t : Target) → setting_of t s < 2 ^ 32 → heard_of (order_word t ++ (32 ∷ answer_text (answer_of m s (query_of t)))) false ≡ heard_as (One (Obey (Set t (setting_of t s)))) false
-unfolding heard_of asks_of asked_by answer_of answer_text findWord first_at setting_of
+unfolding heard_of asks_of asked_by answer_of answer_text find_word first_at setting_of
 read_back m s Pv l = rw (no_checksum (order_word Pv) (figure 4 s.pv) (omega (arith, figure_length 3 s.pv)) (third_4 s.pv), not_empty (order_word Pv) (figure 4 s.pv)) (ap (λ a. heard_as a false) (number_asked Pv 3 s.pv (lit< tt) l))
 read_back m s Pc l = rw (no_checksum (order_word Pc) (figure 3 s.pc) (omega (arith, figure_length 2 s.pc)) (third_3 s.pc), not_empty (order_word Pc) (figure 3 s.pc)) (ap (λ a. heard_as a false) (number_asked Pc 2 s.pc (lit< tt) l))
 read_back m s Ovp l = rw (no_checksum (order_word Ovp) (figure 4 s.ovp) (omega (arith, figure_length 3 s.ovp)) (third_4 s.ovp), not_empty (order_word Ovp) (figure 4 s.ovp)) (ap (λ a. heard_as a false) (number_asked Ovp 3 s.ovp (lit< tt) l))
@@ -99,7 +99,7 @@ sent_leaves : (m : ℕ) (s : Supply) (t : Target) → Lawful m s → setting_of 
 sent_leaves m s t h = set_taken m s t (setting_of t s) (sent_accepted m s t h)
 
 query_asked : (t : Target) → heard_of (query_word t) false ≡ heard_as (One (Ask (query_of t))) false
-unfolding heard_of asks_of asked_by parameter_of findWord first_at
+unfolding heard_of asks_of asked_by parameter_of find_word first_at
 query_asked Pv = refl
 query_asked Pc = refl
 query_asked Ovp = refl

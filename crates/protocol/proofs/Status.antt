@@ -3,7 +3,7 @@ use Prim.Native.Nat.{ℕ}
 use mathlib.Core.Path.{◌≡◌, refl}
 use native.Mathlib.Nat.{zero-mul}
 use Rattle.models.specs.Models.{volt_reading, amp_reading}
-use Rattle.hex.specs.Hex.{is_hex, hex_of, read_hex, hex_pair}
+use Rattle.hexadecimal.specs.Hex.{is_hex, hex_of, read_hex, hex_pair}
 use Rattle.prints.specs.Figure.{fixed, shortest, decimals, figure}
 use Rattle.supply.specs.declared.Supply.{Supply}
 use Rattle.supply.specs.State.{fresh}
@@ -13,7 +13,7 @@ use Rattle.answers.specs.Answers.{answer_of}
 use Rattle.texts.specs.Texts.{status_text, answer_text, ending}
 use Rattle.reply.specs.Obeying.{said_of}
 use Rattle.figures.specs.Number.{first_at}
-use Rattle.words.specs.Words.{findWord}
+use Rattle.words.specs.Words.{find_word}
 use Rattle.parameters.specs.Parameters.{read_as, parameter_of}
 use Rattle.asks.specs.Words.{asked_by}
 use Rattle.asks.specs.Asked.{asks_of}
@@ -37,7 +37,7 @@ no_amps m = rw zero-mul refl
 
 -- THE FIVE WORDS
 pub status_words : StatusWords
-unfolding heard_of asks_of right_checksum asked_by parameter_of read_as findWord first_at read_hex hex_of is_hex
+unfolding heard_of asks_of right_checksum asked_by parameter_of read_as find_word first_at read_hex hex_of is_hex
 status_words = record { stt = refl; stat = refl; sena = refl; seve = refl; enabling = refl }
 
 -- STT?, SENA? AND SEVE? OF A FRESH SUPPLY

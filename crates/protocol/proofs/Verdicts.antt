@@ -39,11 +39,11 @@ module _ (k : Command) where
   bare_cases true = refl
   bare_cases false = refl
 
-  abbrev ownStages : Kind → List ℕ → List Stage
-  ownStages d x =
+  abbrev own_stages : Kind → List ℕ → List Stage
+  own_stages d x =
       (is_unknown d, fails_with k c01) ∷ (is_absent d x, fails_with k c02) ∷ (is_malformed d x, fails_with k c03) ∷ (is_beyond d x, fails_with k c05) ∷ []
 
-  by_kind : (d : Kind) (x : List ℕ) → asked_with k (parameter_of d x) ≡ first_of (ownStages d x) (asks_with k (value_of d x))
+  by_kind : (d : Kind) (x : List ℕ) → asked_with k (parameter_of d x) ≡ first_of (own_stages d x) (asks_with k (value_of d x))
   unfolding parameter_of read_as
   by_kind bare x = bare_cases (is_empty x)
   by_kind (number n) x = need_cases (read_as (number n) x).value (is_empty x) (read_as (number n) x).good
@@ -53,7 +53,7 @@ module _ (k : Command) where
   by_kind unknown x = refl
 
 -- the stages after the checksum, for a line without its checksum
-body_stages : (u : List ℕ) → asks_of u ≡ pick (is_empty u) (One Nothing) (first_of (ownStages (command_of (upper_all (word_of u))) (kind_of (command_of (upper_all (word_of u)))) (parameter_text u)) (asks_with (command_of (upper_all (word_of u))) (value_of (kind_of (command_of (upper_all (word_of u)))) (parameter_text u))))
+body_stages : (u : List ℕ) → asks_of u ≡ pick (is_empty u) (One Nothing) (first_of (own_stages (command_of (upper_all (word_of u))) (kind_of (command_of (upper_all (word_of u)))) (parameter_text u)) (asks_with (command_of (upper_all (word_of u))) (value_of (kind_of (command_of (upper_all (word_of u)))) (parameter_text u))))
 unfolding asks_of asked_by
 body_stages u = ap (pick (is_empty u) (One Nothing)) (by_kind (command_of (upper_all (word_of u))) (kind_of (command_of (upper_all (word_of u)))) (parameter_text u))
 
@@ -65,7 +65,7 @@ verdicts t false = by_checksum (has_checksum t) (right_checksum t) refl
   where
     by_checksum : (h r : Bool) → has_checksum t ≡ h
         → (pick h (pick r (heard_as (asks_of (before_checksum t)) true) (heard_as (Error c04) false)) (heard_as (asks_of t) false)).asks
-        ≡ pick (h && not r) (Error c04) (pick (is_empty (pick h (before_checksum t) t)) (One Nothing) (first_of (ownStages (command_of (upper_all (word_of (pick h (before_checksum t) t)))) (kind_of (command_of (upper_all (word_of (pick h (before_checksum t) t))))) (parameter_text (pick h (before_checksum t) t))) (asks_with (command_of (upper_all (word_of (pick h (before_checksum t) t)))) (value_of (kind_of (command_of (upper_all (word_of (pick h (before_checksum t) t))))) (parameter_text (pick h (before_checksum t) t))))))
+        ≡ pick (h && not r) (Error c04) (pick (is_empty (pick h (before_checksum t) t)) (One Nothing) (first_of (own_stages (command_of (upper_all (word_of (pick h (before_checksum t) t)))) (kind_of (command_of (upper_all (word_of (pick h (before_checksum t) t))))) (parameter_text (pick h (before_checksum t) t))) (asks_with (command_of (upper_all (word_of (pick h (before_checksum t) t)))) (value_of (kind_of (command_of (upper_all (word_of (pick h (before_checksum t) t))))) (parameter_text (pick h (before_checksum t) t))))))
     by_checksum true true e = body_stages (before_checksum t)
     by_checksum true false e = refl
     by_checksum false r e = body_stages t

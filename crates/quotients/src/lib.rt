@@ -1,5 +1,7 @@
 // Layer ground.
 // Two whole numbers divided as 64-bit floats: both exact, and the quotient rounded once.
+#![tactic(auto)]
+
 ghost use Rattle.std.specs.Prelude.{◌≡◌, ◌<◌, ◌≤◌, ◌^◌};
 ghost use Rattle.quotients.specs.Quotient.{rounded};
 

@@ -1,6 +1,8 @@
 // Layer calls.
 // The three functions that customers call, in one place: `fit` makes a rack from a fitting list, `call` takes one
 // field, and `cell_at` tells the resistance of the cell at an address.
+#![tactic(auto)]
+
 pub use calls::{Answer, call};
 pub use fitting::{Fitted, fit};
 pub use resistance::{Cell, CellAnswer, Metered, Resistance, cell_at};

@@ -1,5 +1,7 @@
 // Layer reply.
 // A supply that performs an act and replies to it; the reply is placed into a lent buffer.
+#![tactic(auto)]
+
 ghost use Rattle.std.specs.Prelude.{◌≡◌};
 ghost use Rattle.base.specs.Put.{Put};
 ghost use Rattle.acts.specs.Acts.{code_of, performed};

@@ -1,6 +1,8 @@
 // Layer calls.
 // The resistance of the cell at an address, for a plot, and the volts and amperes beside it; and the same as numbers,
 // for programs in C or Rust.
+#![tactic(auto)]
+
 ghost use Rattle.std.specs.Prelude.{◌≡◌, ◌<◌, ◌^◌};
 ghost use Rattle.resistance.specs.Cells.{resistance_of, cell_by, cell_of, cell_at};
 ghost use Rattle.resistance.specs.Numbers.{no_figure, kind_of, ohms_of, cell_numbers};
@@ -9,7 +11,7 @@ use slots::Rack;
 use supply::Supply;
 
 // The resistance of a cell in ohms; or that it is open, so that no current flows; or that the output is off.
-#[derive(Drop)]
+#[derive(Clone, Copy)]
 pub enum Resistance {
     Ohms(f64),
     Open,
@@ -17,21 +19,21 @@ pub enum Resistance {
 }
 
 // The readings of a supply, in volts and amperes.
-#[derive(Drop)]
+#[derive(Clone, Copy)]
 pub struct Metered {
     pub volts: f64,
     pub amps: f64,
 }
 
 // A cell: its resistance, and the readings of its supply, which stand beside all three answers.
-#[derive(Drop)]
+#[derive(Clone, Copy)]
 pub struct Cell {
     pub resistance: Resistance,
     pub metered: Metered,
 }
 
 // The cell at an address; or refusal 6, where no supply is fitted.
-#[derive(Drop)]
+#[derive(Clone, Copy)]
 pub enum CellAnswer {
     Measured(Cell),
     NoSupply,
@@ -40,7 +42,7 @@ pub enum CellAnswer {
 // A cell as numbers: code 0, the kind of its resistance (0 ohms, 1 open, 2 off) and its figures; or code 6, kind 255
 // and no figures. A missing figure is a NaN.
 #[repr(C)]
-#[derive(Drop)]
+#[derive(Clone, Copy)]
 pub struct CellNumbers {
     pub code: u8,
     pub kind: u8,

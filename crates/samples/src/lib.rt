@@ -1,5 +1,7 @@
 // Layer supply.
 // What a sample does to a supply: its counts are stored, it may trip the supply, and it may be judged CV.
+#![tactic(auto)]
+
 ghost use Rattle.std.specs.Prelude.{◌≡◌};
 ghost use Rattle.samples.specs.Samples.{sampled};
 
@@ -7,6 +9,7 @@ use supply::Supply;
 
 // A sample of two counts. Their readings matter only while the output is on, since only then can they trip or be judged
 // CV. Foldback needs the CV memory, so a cell that starts in current limit does not trip.
+#[tactic(auto, unfolding(crate::specs::Samples::sampled, supply::specs::Flt::in_limit))]
 pub fn sampled_at(model: u8, s: Supply, v: u16, a: u16) -> Supply
     ensures { result ≡ sampled model s v a }
 {

@@ -1,5 +1,7 @@
 // Layer rack.
 // The serial line in code: its kept characters byte by byte, what a line asks at its CR, and the model at an address.
+#![tactic(auto)]
+
 ghost use Rattle.std.specs.Prelude.{◌≡◌, take};
 ghost use Rattle.wire.specs.Wire.{fresh_wire, model_at, fitted};
 ghost use Rattle.command.specs.Lines.{heard_of};
@@ -10,7 +12,7 @@ use wire::Setup;
 
 // The line: the kept characters and their count, whether it is spoiled, and the selected slot, or 31 for nobody.
 #[repr(C)]
-#[derive(Drop)]
+#[derive(Clone, Copy)]
 pub struct Line {
     pub kept: [u8; 64],
     pub count: usize,
@@ -31,7 +33,7 @@ pub fn fresh_line() -> Line
 }
 
 // The line after a character, apart from the array: how many characters are kept, and whether the line is spoiled.
-#[derive(Drop)]
+#[derive(Clone, Copy)]
 pub struct Counted {
     pub count: usize,
     pub spoiled: bool,

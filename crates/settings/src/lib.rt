@@ -1,11 +1,14 @@
 // Layer supply.
 // The four settings, the range of each, and a knob step on one.
+#![tactic(auto)]
+
 ghost use Rattle.std.specs.Prelude.{◌≡◌, min, max, pos, ◌+ℤ◌};
 ghost use Rattle.models.specs.Models.{limits_of};
 ghost use Rattle.settings.specs.Settings.{setting_of, with_setting, least_of, most_of, signed_of, nat_part, stepped};
 
 use supply::{Supply, Target};
 
+#[tactic(auto, unfolding(crate::specs::Settings::setting_of))]
 fn setting(s: Supply, t: Target) -> u32
     ensures { result ≡ setting_of t s }
 {
@@ -17,6 +20,7 @@ fn setting(s: Supply, t: Target) -> u32
     }
 }
 
+#[tactic(auto, unfolding(crate::specs::Settings::with_setting))]
 pub fn with_setting(s: Supply, t: Target, x: u32) -> Supply
     ensures { result ≡ with_setting t x s }
 {
@@ -55,6 +59,7 @@ fn larger(a: u64, b: u64) -> u64
 
 // The least value of a setting that keeps margins and limits. A margin is a quotient rounded up: add 18 before
 // dividing by 19, and 19 before dividing by 20.
+#[tactic(auto, unfolding(crate::specs::Settings::least_of))]
 fn least_of(model: u8, s: Supply, t: Target) -> u64
     ensures { result ≡ least_of (limits_of model) s t }
 {
@@ -68,6 +73,7 @@ fn least_of(model: u8, s: Supply, t: Target) -> u64
 }
 
 // The greatest value of a setting that keeps margins and limits.
+#[tactic(auto, unfolding(crate::specs::Settings::most_of))]
 fn most_of(model: u8, s: Supply, t: Target) -> u64
     ensures { result ≡ most_of (limits_of model) s t }
 {
@@ -81,6 +87,7 @@ fn most_of(model: u8, s: Supply, t: Target) -> u64
 }
 
 // x plus a step in exact arithmetic, or 0 if the sum is negative.
+#[tactic(auto, using(crate::proofs::Numbers::sum_below), unfolding(crate::specs::Settings::signed_of))]
 fn with_step(x: u32, raw: u32) -> u64
     ensures { result ≡ nat_part (pos x +ℤ signed_of raw) }
 {

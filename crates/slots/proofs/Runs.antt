@@ -34,7 +34,7 @@ module _ (r q : Rack) (s : Sent) (v : view_of q ≡ moved plain_supply (view_of 
   moves_then t p b at n b₁ k b₂ f g =
       record {
         small = g.small;
-        view = g.view ∙ rw v (sym (moved_twice plain_supply (view_of r) s t));
+        view = g.view ∙ ap (λ (x : wire.Rack Supply). moved plain_supply x t) v ∙ sym (moved_twice plain_supply (view_of r) s t);
         said = rw (both_replies t) (put_then f.said g.said);
       }
 

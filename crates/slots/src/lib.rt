@@ -1,6 +1,8 @@
 // Layer rack.
 // A line at its CR, worked with only the line and the supply of the selected slot; and the rack that its definitions
 // describe.
+#![tactic(auto)]
+
 ghost use Rattle.std.specs.Prelude.{◌≡◌, false};
 ghost use Rattle.wire.specs.Wire.{select, faulty};
 ghost use Rattle.supply.specs.declared.Order.TheVariants.{Cls};
@@ -17,7 +19,7 @@ use wire::Setup;
 
 // The rack by value: 31 slots, the serial line and the setup.
 #[repr(C)]
-#[derive(Drop)]
+#[derive(Clone, Copy)]
 pub struct Rack {
     pub slots: [Supply; 31],
     pub line: Line,
@@ -26,7 +28,7 @@ pub struct Rack {
 
 // What a line leaves at its CR, besides a line that keeps nothing: the slot selected now, the supply of the slot
 // selected before, and the index after the reply; or an order for all.
-#[derive(Drop)]
+#[derive(Clone, Copy)]
 pub struct Ended {
     pub selected: u8,
     pub supply: Supply,

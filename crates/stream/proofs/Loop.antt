@@ -152,3 +152,12 @@ module _ {v q : wire.Rack Supply} {room room' : List ℕ} {b n : Block} {code : 
             };
         sends = λ t. ((and-eq-true_iff sent _).0 t).0;
       }
+
+-- the same, of the bytes as a program takes them: those before the end of its room, and of these the ones not worked
+pub one_more : {v q : wire.Rack Supply} {room room' : List ℕ} {b n : Block} {code : ℕ} {more : Bool} → At v q room b code more → more ≡ true
+    → (code ≡ 0 → (n ≡ b) × (room' ≡ room)) × ((code ≡ 0 → ⊥) → Refilled (unworked room b) room' b n) → length room' ≡ 8192
+    → (there rest : List ℕ) → there ≡ take n.end room' → rest ≡ drop n.from there
+    → (p : wire.Rack Supply) (k : ℕ) (said : List ℕ) (after : ℕ) (stop : ℕ → Bool) → ran p k said after ≡ fields_on stop q rest
+    → (sent : Bool) → OneCycle v p room' b n code k after sent
+one_more g m f long there rest t r p k said after stop e =
+    a_cycle (rw m at g) f long p k said after stop (e ∙ ap (fields_on stop _) (r ∙ ap (drop _) t))

@@ -1,11 +1,13 @@
 // Layer outside.
 // The input as a stream: the bytes read but not yet worked, and the read that brings more of them.
+#![tactic(auto)]
+
 ghost use Rattle.std.specs.Prelude.{◌≡◌, true, false, ◌<◌, length};
 ghost use Rattle.stream.specs.Stream.{unworked, Refilled, goes_on, told};
 
 // The bytes read stand before the index `end` of their room, and those before the index `from` are worked. Also:
 // whether the last read brought any or failed for good, and how many reads may still be made.
-#[derive(Drop)]
+#[derive(Clone, Copy)]
 pub struct Block {
     pub from: usize,
     pub end: usize,
@@ -29,7 +31,7 @@ pub fn no_block() -> Block
 
 // After a refusal, keeps the bytes not yet worked and reads more after them; after a full buffer (code 0), does
 // nothing.
-pub fn refill(room: &mut [u8], b: Block, code: u8) -> Block
+pub fn refill(rt: &HostRuntime, room: &mut [u8], b: Block, code: u8) -> Block
     requires { (code ≡ 0 → ⊥) → (length (unworked room.old b) < length room.old) × (0 < b.reads) }
     ensures { (code ≡ 0 → (result ≡ b) × (room.new ≡ room.old))
         × ((code ≡ 0 → ⊥) → Refilled (unworked room.old b) room.new b result) }
@@ -38,7 +40,7 @@ pub fn refill(room: &mut [u8], b: Block, code: u8) -> Block
         return b;
     }
     let kept = buffers::keep_rest(room, b.from, b.end);
-    let got = console::take_block(room, kept);
+    let got = console::take_block(rt, room, kept);
     Block {
         from: 0,
         end: got.count,
@@ -50,7 +52,7 @@ pub fn refill(room: &mut [u8], b: Block, code: u8) -> Block
 
 // Whether a program goes on after a cycle: its replies are written, and either a full buffer stopped it or more bytes
 // may come and mend the refusal.
-pub fn goes_on_lem(sent: bool, code: u8, waits: bool, b: Block) -> bool
+pub fn goes_on(sent: bool, code: u8, waits: bool, b: Block) -> bool
     ensures { result ≡ goes_on sent code waits b }
 {
     sent & ((code == 0) | (waits & b.brought & (0 < b.reads)))

@@ -1,4 +1,5 @@
 pub mod FltBits
+pub mod Shut
 pub mod Gains
 pub mod StatBits
 pub mod Rings

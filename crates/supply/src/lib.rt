@@ -1,6 +1,8 @@
 // Layer supply.
 // The plain supply: its state, everything that can happen to it, FLT and STAT, and what an event adds to FEVE and SEVE.
 // The model is passed alongside the state.
+#![tactic(auto)]
+
 ghost use Rattle.std.specs.Prelude.{◌≡◌, leb};
 ghost use Rattle.supply.specs.State.{fresh};
 ghost use Rattle.supply.specs.Flt.{flt_of, on_of, lines_clear, in_limit};
@@ -11,7 +13,7 @@ ghost use Rattle.supply.specs.Registers.{feve_gained, seve_gained, settled};
 // The whole state of a supply. Figures are in ticks of 0.1 mV and in mA; mode is 0 local, 1 remote, 2 locked out.
 // cv_seen is the CV memory: whether a sample was judged CV since the output came on.
 #[repr(C)]
-#[derive(Drop)]
+#[derive(Clone, Copy)]
 pub struct Supply {
     pub pv: u32,
     pub pc: u32,
@@ -36,7 +38,7 @@ pub struct Supply {
 // C05: a figure beyond its limits, or an address above 30. Only this code can be drawn by an order and by a line.
 pub const C05: u8 = 0xC5;
 
-#[derive(Drop)]
+#[derive(Clone, Copy)]
 pub enum Target {
     Pv,
     Pc,
@@ -44,14 +46,14 @@ pub enum Target {
     Uvl,
 }
 
-#[derive(Drop)]
+#[derive(Clone, Copy)]
 pub enum Key {
     Output,
     Fold,
     Local,
 }
 
-#[derive(Drop)]
+#[derive(Clone, Copy)]
 pub enum Order {
     Set(Target, u64),
     Ovm,
@@ -65,7 +67,7 @@ pub enum Order {
     Rst,
 }
 
-#[derive(Drop)]
+#[derive(Clone, Copy)]
 pub enum Query {
     Pv,
     Pc,
@@ -89,7 +91,7 @@ pub enum Query {
 
 // Everything that can happen to a supply: a new LINES byte, a sample of two counts, a key, a knob step
 // (32 bits in two's complement), an order, a query, or nothing (the empty line).
-#[derive(Drop)]
+#[derive(Clone, Copy)]
 pub enum Act {
     Lines(u8),
     Sample(u16, u16),
@@ -101,13 +103,13 @@ pub enum Act {
 }
 
 // The error code, 0 if the act was accepted, and the supply after the act.
-#[derive(Drop)]
+#[derive(Clone, Copy)]
 pub struct Outcome {
     pub code: u8,
     pub supply: Supply,
 }
 
-#[derive(Drop)]
+#[derive(Clone, Copy)]
 pub enum Word {
     On,
     Off,
@@ -119,7 +121,7 @@ pub enum Word {
 }
 
 // What STT? tells: the volt reading and PV in ticks, the ampere reading and PC in mA, STAT and FLT.
-#[derive(Drop)]
+#[derive(Clone, Copy)]
 pub struct Status {
     pub volts: u64,
     pub pv: u64,
@@ -130,7 +132,7 @@ pub struct Status {
 }
 
 // The answer to a query, by meaning: a figure with its number of decimals, a word, a byte, or all that STT? tells.
-#[derive(Drop)]
+#[derive(Clone, Copy)]
 pub enum QueryAnswer {
     Figure(u8, u64),
     Says(Word),
@@ -139,6 +141,7 @@ pub enum QueryAnswer {
 }
 
 // The FLT byte.
+#[tactic(auto, unfolding(crate::specs::Flt::flt_of))]
 pub fn flt(s: Supply) -> u8
     ensures { result ≡ flt_of s }
 {
@@ -149,6 +152,7 @@ pub fn flt(s: Supply) -> u8
 }
 
 // Whether the output is on.
+#[tactic(auto, unfolding(crate::specs::Flt::on_of))]
 pub fn is_on(s: Supply) -> bool
     ensures { result ≡ on_of s }
 {
@@ -156,6 +160,7 @@ pub fn is_on(s: Supply) -> bool
 }
 
 // Whether LINES is 0, so that the output may be turned on.
+#[tactic(auto, unfolding(crate::specs::Flt::lines_clear))]
 pub fn lines_clear(s: Supply) -> bool
     ensures { result ≡ lines_clear s }
 {
@@ -170,6 +175,7 @@ pub fn reaches_pc(s: Supply, amps: u64) -> bool
 }
 
 // Whether the ampere reading of the stored counts is at least PC.
+#[tactic(auto, unfolding(crate::specs::Flt::in_limit))]
 pub fn in_limit(model: u8, s: Supply) -> bool
     ensures { result ≡ in_limit model s }
 {
@@ -177,6 +183,7 @@ pub fn in_limit(model: u8, s: Supply) -> bool
 }
 
 // The STAT byte.
+#[tactic(auto, unfolding(crate::specs::Stat::stat_of))]
 pub fn stat(model: u8, s: Supply) -> u8
     ensures { result ≡ stat_of model s }
 {
@@ -194,6 +201,7 @@ pub fn stat(model: u8, s: Supply) -> u8
 }
 
 // FEVE gains each FLT bit that rose and that FENA enabled before.
+#[tactic(auto, unfolding(crate::specs::Registers::feve_gained))]
 pub fn gain_feve(before: Supply, after: Supply) -> Supply
     ensures { result ≡ feve_gained before after }
 {
@@ -205,6 +213,7 @@ pub fn gain_feve(before: Supply, after: Supply) -> Supply
 }
 
 // SEVE gains each STAT bit that rose and that SENA enabled before.
+#[tactic(auto, unfolding(crate::specs::Registers::seve_gained))]
 pub fn gain_seve(model: u8, before: Supply, after: Supply) -> Supply
     ensures { result ≡ seve_gained model before after }
 {
@@ -216,6 +225,7 @@ pub fn gain_seve(model: u8, before: Supply, after: Supply) -> Supply
 }
 
 // The second stage of an act: FEVE gains first, then SEVE. With SENA 0 it can gain nothing, and STAT is not worked out.
+#[tactic(auto, unfolding(crate::specs::Registers::settled))]
 pub fn settle(model: u8, before: Supply, after: Supply) -> Supply
     ensures { result ≡ settled model before after }
 {
@@ -227,6 +237,7 @@ pub fn settle(model: u8, before: Supply, after: Supply) -> Supply
 }
 
 // Ends an act: with the output off, a supply forgets that a sample was judged CV.
+#[tactic(auto, unfolding(crate::specs::Memory::cv_forgotten))]
 pub fn forget_cv(s: Supply) -> Supply
     ensures { result ≡ cv_forgotten s }
 {
@@ -237,6 +248,7 @@ pub fn forget_cv(s: Supply) -> Supply
 }
 
 // A supply as fitted.
+#[tactic(auto, unfolding(crate::specs::State::fresh))]
 pub fn fresh_supply(model: u8) -> Supply
     ensures { result ≡ fresh model }
 {

@@ -11,7 +11,7 @@ use Rattle.base.specs.Put.{Put}
 use Rattle.base.specs.Text.{codes}
 use Rattle.base.proofs.Put.{put_then, put_full, put_full_is, put_there, put_length}
 use Rattle.prints.specs.Figure.{figure}
-use Rattle.hex.specs.Hex.{hex_digit, hex_pair, checksum}
+use Rattle.hexadecimal.specs.Hex.{hex_digit, hex_pair, checksum}
 use Rattle.supply.specs.declared.Status.{Status}
 use Rattle.texts.specs.Texts.{code_text, status_text, ending, reply_of}
 

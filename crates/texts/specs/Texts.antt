@@ -3,7 +3,7 @@ use Rattle.std.specs.Prelude.{ℕ, ◌/◌, ◌%◌, List, [], ◌∷◌, ◌++�
 use Rattle.base.specs.Choice.{pick}
 use Rattle.base.specs.Text.{codes}
 use Rattle.prints.specs.Figure.{figure}
-use Rattle.hex.specs.Hex.{hex_digit, hex_pair, checksum}
+use Rattle.hexadecimal.specs.Hex.{hex_digit, hex_pair, checksum}
 use Rattle.supply.specs.declared.Word.{Word}
 use Rattle.supply.specs.declared.Word.TheVariants.{On, Off, Loc, Rem, Llo, Cc, Cv}
 use Rattle.supply.specs.declared.Status.{Status}

@@ -1,9 +1,11 @@
 // Layer reply.
 // The text of a reply: OK, an error code or an answer, a checksum if asked for, and CR, placed into a lent buffer.
+#![tactic(auto)]
+
 ghost use Rattle.std.specs.Prelude.{◌-◌, ◌≤◌, ◌++◌, take, drop};
 ghost use Rattle.base.specs.Put.{Put};
 ghost use Rattle.prints.specs.Figure.{figure};
-ghost use Rattle.hex.specs.Hex.{hex_pair};
+ghost use Rattle.hexadecimal.specs.Hex.{hex_pair};
 ghost use Rattle.texts.specs.Texts.{code_text, word_text, status_text, answer_text, ending, reply_of};
 
 use supply::{QueryAnswer, Status, Word};
@@ -15,9 +17,9 @@ fn put_code(buf: &mut [u8], at: usize, code: u8) -> usize
     if code == 0 {
         base::put_text(buf, at, b"OK")
     } else {
-        let p = base::put_byte(buf, at, hex::hex_digit(code / 16));
+        let p = base::put_byte(buf, at, hexadecimal::hex_digit(code / 16));
         let q = base::put_byte(buf, p, b'0');
-        base::put_byte(buf, q, hex::hex_digit(code % 16))
+        base::put_byte(buf, q, hexadecimal::hex_digit(code % 16))
     }
 }
 
@@ -48,7 +50,7 @@ fn put_register(buf: &mut [u8], at: usize, label: &[u8], byte: u8) -> usize
     ensures { Put buf.old at (label.now ++ hex_pair byte) result buf.new }
 {
     let p = base::put_text(buf, at, label);
-    hex::put_hex(buf, p, byte)
+    hexadecimal::put_hex(buf, p, byte)
 }
 
 fn put_status(buf: &mut [u8], at: usize, t: Status) -> usize
@@ -69,7 +71,7 @@ fn put_answer(buf: &mut [u8], at: usize, a: QueryAnswer) -> usize
     match a {
         QueryAnswer::Figure(k, v) => prints::put_figure(buf, at, k as usize, v),
         QueryAnswer::Says(w) => put_word(buf, at, w),
-        QueryAnswer::Hex(b) => hex::put_hex(buf, at, b),
+        QueryAnswer::Hex(b) => hexadecimal::put_hex(buf, at, b),
         QueryAnswer::Tells(t) => put_status(buf, at, t),
     }
 }
@@ -84,9 +86,9 @@ fn put_end(buf: &mut [u8], from: usize, at: usize, checksummed: bool) -> usize
         return at;
     }
     if checksummed {
-        let x = hex::checksum(&buf[from..at]);
+        let x = hexadecimal::checksum(&buf[from..at]);
         let p = base::put_byte(buf, at, b'$');
-        let q = hex::put_hex(buf, p, x);
+        let q = hexadecimal::put_hex(buf, p, x);
         base::put_byte(buf, q, 13)
     } else {
         base::put_byte(buf, at, 13)

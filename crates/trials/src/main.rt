@@ -3,10 +3,15 @@
 // outcome. A second model of the supply, which shares nothing with this one, writes the table (tests/src/trial.rs says
 // what each number is). Prints the lines of the first wrong cases, then how many cases there were and how many were
 // wrong.
+#![tactic(auto)]
+
+ghost use Rattle.std.specs.Prelude.{◌≤◌, length};
+
 mod rows;
 
-use libc::{STDIN_FILENO, STDOUT_FILENO};
 use rows::CELLS;
+use std::io;
+use std::io::Read;
 
 // The next cell of a row that has too many numbers, or something that is not a number.
 const SPOILED: usize = 47;
@@ -16,7 +21,7 @@ const NAMED: u64 = 10;
 
 // How far the table is read: the next cell of the row, the number so far, how many cases were tried, how many were
 // wrong, and whether the input may have more.
-#[derive(Drop)]
+#[derive(Clone, Copy)]
 struct Tally {
     at: usize,
     number: u64,
@@ -30,11 +35,9 @@ fn one_more(n: u64) -> u64 {
 }
 
 // Names the line of a wrong case, unless enough of them are named.
-fn name_wrong(line: u64, wrong: u64) {
+fn name_wrong(rt: &HostRuntime, line: u64, wrong: u64) {
     if wrong < NAMED {
-        io::write_all(STDOUT_FILENO, b"wrong: line ");
-        io::print_decimal(STDOUT_FILENO, line);
-        io::write_all(STDOUT_FILENO, b"\n");
+        let _ = println!(rt; "wrong: line {line}");
     }
 }
 
@@ -77,21 +80,21 @@ fn end_number(row: &mut [u64; CELLS], t: Tally) -> Tally {
 }
 
 // A row ends, and its case is tried.
-fn end_row(row: &[u64; CELLS], t: Tally) -> Tally {
+fn end_row(rt: &HostRuntime, row: &[u64; CELLS], t: Tally) -> Tally {
     let mut r = t;
     r.at = 0;
     r.cases = one_more(t.cases);
     if !((t.at == CELLS) & rows::row_holds(row)) {
-        name_wrong(r.cases, t.wrong);
+        name_wrong(rt, r.cases, t.wrong);
         r.wrong = one_more(t.wrong);
     }
     r
 }
 
-fn take_byte(row: &mut [u64; CELLS], t: Tally, b: u8) -> Tally {
+fn take_byte(rt: &HostRuntime, row: &mut [u64; CELLS], t: Tally, b: u8) -> Tally {
     if b == b'\n' {
         let r = end_number(row, t);
-        end_row(row, r)
+        end_row(rt, row, r)
     } else if b == b' ' {
         end_number(row, t)
     } else {
@@ -99,27 +102,40 @@ fn take_byte(row: &mut [u64; CELLS], t: Tally, b: u8) -> Tally {
     }
 }
 
-fn take_bytes(row: &mut [u64; CELLS], t: Tally, s: &[u8]) -> Tally {
+fn take_bytes(rt: &HostRuntime, row: &mut [u64; CELLS], t: Tally, s: &[u8]) -> Tally {
     let mut r = t;
-    let mut i = 0;
-    while i < s.len() {
-        r = take_byte(row, r, s[i]);
-        i += 1;
+    for b in s {
+        r = take_byte(rt, row, r, *b);
     }
     r
 }
 
+// Reads until the buffer is full, the input ends or a read fails, and returns how many bytes came.
+fn read_full(rt: &HostRuntime, buf: &mut [u8]) -> usize
+    ensures { result ≤ length buf.new }
+{
+    let mut done = 0;
+    while done < buf.len() {
+        let n = rt.stdin().read(&mut buf[done..]).unwrap_or(0);
+        if n == 0 {
+            return done;
+        }
+        done += n;
+    }
+    done
+}
+
 // Reads a block of the table and tries each case that ends in it.
-fn take_block(row: &mut [u64; CELLS], t: Tally) -> Tally {
-    let mut buf = io::large_buffer();
-    let n = io::read_full(STDIN_FILENO, &mut buf);
-    let mut r = take_bytes(row, t, &buf[..n]);
+fn take_block(rt: &HostRuntime, row: &mut [u64; CELLS], t: Tally) -> Tally {
+    let mut buf = [0u8; 65_536];
+    let n = read_full(rt, &mut buf);
+    let mut r = take_bytes(rt, row, t, &buf[..n]);
     r.more = 0 < n;
     r
 }
 
 // Reads to the end of the input; the bound allows more blocks than any table has.
-fn take_table() -> Tally {
+fn take_table(rt: &HostRuntime) -> Tally {
     let mut row = [0u64; CELLS];
     let mut t = Tally {
         at: 0,
@@ -128,18 +144,16 @@ fn take_table() -> Tally {
         wrong: 0,
         more: true,
     };
-    let mut blocks: u64 = 1_000_000;
-    while 0 < blocks && t.more {
-        t = take_block(&mut row, t);
-        blocks -= 1;
+    for _ in 0..1_000_000 {
+        if !t.more {
+            break;
+        }
+        t = take_block(rt, &mut row, t);
     }
     t
 }
 
-fn main() {
-    let t = take_table();
-    io::print_decimal(STDOUT_FILENO, t.cases);
-    io::write_all(STDOUT_FILENO, b" cases, ");
-    io::print_decimal(STDOUT_FILENO, t.wrong);
-    io::write_all(STDOUT_FILENO, b" wrong\n");
+fn main(rt: HostRuntime) -> io::Result<()> {
+    let Tally { cases, wrong, .. } = take_table(&rt);
+    println!(rt; "{cases} cases, {wrong} wrong")
 }

@@ -9,7 +9,7 @@ use lib.ListN.{length, get_or}
 use Rattle.base.proofs.Lists.{length_tabulate}
 use Rattle.wire.specs.Wire.{Delivery, fitted, Sent, followed, Call, Item, Parsed, refuse, accept, parse, scan}
 use Rattle.wire.specs.Share.{items, stream}
-use Rattle.wire.specs.Rack.{Plain, Rack, next, stateAt, deliver, moved, result_of, call_of, after, run_from}
+use Rattle.wire.specs.Rack.{Plain, Rack, next, state_at, deliver, moved, result_of, call_of, after, run_from}
 use Rattle.wire.specs.declared.Setup.{Setup}
 use Rattle.wire.proofs.Stream.{scan_append}
 
@@ -52,4 +52,4 @@ module _ (M : Plain) where
 
   pub deliver_size : (u : Setup) (ss : List State) (ds : List Delivery) → length (foldl (deliver M u) ss ds) ≡ length ss
   deliver_size u ss [] = refl
-  deliver_size u ss (d ∷ ds) = deliver_size u (deliver M u ss d) ds ∙ length_tabulate (length ss) (next M u (stateAt M ss) d)
+  deliver_size u ss (d ∷ ds) = deliver_size u (deliver M u ss d) ds ∙ length_tabulate (length ss) (next M u (state_at M ss) d)

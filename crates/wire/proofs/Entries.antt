@@ -23,10 +23,10 @@ every_flat P Q f k (d ∷ ds) p = every_append Q (f d) (flat f ds) (k d p.0) (ev
 
 module _ (γ : Grammar) (P : Entry → Type 0) (h : Holds γ P) (u : Setup) where
   -- P holds for a delivery if it holds for the entry that it brings
-  abbrev inDelivery : Delivery → Type 0
-  inDelivery (one a e) = P e
-  inDelivery (all e) = P e
-  inDelivery (say t) = Unit
+  abbrev in_delivery : Delivery → Type 0
+  in_delivery (one a e) = P e
+  in_delivery (all e) = P e
+  in_delivery (say t) = Unit
 
   given_has : {D : Type 0} (Q : D → Type 0) (t : Bool) (d : D) → Q d → Every Q (given t d)
   given_has Q t d q = pick_keeps (Every Q) t (d ∷ []) [] (q, tt) tt
@@ -41,30 +41,30 @@ module _ (γ : Grammar) (P : Entry → Type 0) (h : Holds γ P) (u : Setup) wher
   stream_has [] = tt
   stream_has (c ∷ cs) = every_append (in_item P) (items (parse γ u c)) (stream γ u cs) (call_has c) (stream_has cs)
 
-  handed_has : (sel : ℕ) (e : Entry) (c : Class) → P e → Every inDelivery (handed u sel e c)
+  handed_has : (sel : ℕ) (e : Entry) (c : Class) → P e → Every in_delivery (handed u sel e c)
   handed_has sel e (select a t) p = tt
   handed_has sel e (faulty t) p = tt
   handed_has sel e global p = (p, tt)
-  handed_has sel e other p = given_has inDelivery (fitted u sel) (one sel e) p
+  handed_has sel e other p = given_has in_delivery (fitted u sel) (one sel e) p
 
   routes_have : (sel : ℕ) (bytes : List ℕ) (is : List Item) → Every (in_item P) is
-      → Every inDelivery (routes γ u sel (arrivals bytes is))
+      → Every in_delivery (routes γ u sel (arrivals bytes is))
   routes_have sel bytes [] p = tt
   routes_have sel bytes (event a e ∷ is) p = (p.0, routes_have sel bytes is p.1)
   routes_have sel bytes (byte b ∷ is) p = by_end (λ s bs. routes_have s bs is p.1) (eqb b 13)
     where
-      by_end : ((s : ℕ) (bs : List ℕ) → Every inDelivery (routes γ u s (arrivals bs is)))
+      by_end : ((s : ℕ) (bs : List ℕ) → Every in_delivery (routes γ u s (arrivals bs is)))
           → (t : Bool)
-          → Every inDelivery (routes γ u sel (pick t (ended (typed bytes) ∷ arrivals [] is) (arrivals (bytes ++ b ∷ []) is)))
+          → Every in_delivery (routes γ u sel (pick t (ended (typed bytes) ∷ arrivals [] is) (arrivals (bytes ++ b ∷ []) is)))
       by_end ih true =
           let t : TypedLine = typed bytes in
           let c : Class = γ.class_of t.kept t.spoiled in
-          every_append inDelivery (handed u sel (line t.kept t.spoiled) c) _
+          every_append in_delivery (handed u sel (line t.kept t.spoiled) c) _
           (handed_has sel (line t.kept t.spoiled) c (h.lines t.kept t.spoiled))
           (ih (selected u sel c) [])
       by_end ih false = ih sel (bytes ++ b ∷ [])
 
-  slot_has : (a : ℕ) (d : Delivery) → inDelivery d → Every P (for_slot u a d)
+  slot_has : (a : ℕ) (d : Delivery) → in_delivery d → Every P (for_slot u a d)
   slot_has a (one b e) p = given_has P (eqb a b) e p
   slot_has a (all e) p = given_has P (fitted u a) e p
   slot_has a (say t) p = tt
@@ -72,7 +72,7 @@ module _ (γ : Grammar) (P : Entry → Type 0) (h : Holds γ P) (u : Setup) wher
   share_has : (calls : List Call) (a : ℕ) → Every P (share_of γ u calls a)
   unfolding brought
   share_has calls a =
-      every_flat inDelivery P (for_slot u a) (slot_has a) (brought γ u calls)
+      every_flat in_delivery P (for_slot u a) (slot_has a) (brought γ u calls)
       (routes_have nobody [] (stream γ u calls) (stream_has calls))
 
 -- EVERY ENTRY OF EVERY SHARE

@@ -10,7 +10,7 @@ use lib.ListN.{length, get_or, take, drop, replicate}
 use Rattle.base.specs.Choice.{pick, bit}
 use Rattle.base.proofs.Choice.{bit_small}
 use Rattle.base.specs.Text.{codes}
-use Rattle.wire.specs.Wire.{Entry, field, line, Class, select, faulty, global, other, byte, event, Parsed, refuse, accept, Grammar, Call, model_at, parse, char_on, byteOn}
+use Rattle.wire.specs.Wire.{Entry, field, line, Class, select, faulty, global, other, byte, event, Parsed, refuse, accept, Grammar, Call, model_at, parse, char_on, byte_on}
 use Rattle.wire.specs.Share.{typed, brought, share_of}
 use Rattle.wire.specs.Rack.{Plain, CallResult, refused, done, call_of, run, slot}
 use Rattle.wire.specs.Laws.{Trips, Laws}
@@ -105,11 +105,11 @@ unfolding brought typed parse setup list serial grammar class reading
 share_2 = refl
 
 slot_0 : slot toy (run toy setup list) 0 ≡ record { trip = false; fields = 1; entries = 6 }
-unfolding call_of parse byteOn char_on setup list serial grammar class reading is_field trips frees
+unfolding call_of parse byte_on char_on setup list serial grammar class reading is_field trips frees
 slot_0 = refl
 
 slot_2 : slot toy (run toy setup list) 2 ≡ record { trip = true; fields = 0; entries = 8 }
-unfolding call_of parse byteOn char_on setup list serial grammar class reading is_field trips frees
+unfolding call_of parse byte_on char_on setup list serial grammar class reading is_field trips frees
 slot_2 = refl
 
 -- each call of the list: 0, or the number of its refusal
@@ -127,12 +127,12 @@ told (refused n) = []
 told (done r used t) = used ∷ t
 
 answer : told (call_of toy (run toy setup list) (serial (codes "A2\rX\r"))) ≡ 6 ∷ codes "OK\roff\r"
-unfolding told call_of parse byteOn char_on setup list serial grammar class reading is_field trips frees
+unfolding told call_of parse byte_on char_on setup list serial grammar class reading is_field trips frees
 answer = refl
 
 -- and what a field draws that trips the supply: its message comes after both replies
 message : told (call_of toy (run toy setup []) (serial (codes "A2\rX\r"))) ≡ 6 ∷ codes "OK\ron\r!02\r"
-unfolding told call_of parse byteOn char_on setup serial grammar class reading is_field trips frees
+unfolding told call_of parse byte_on char_on setup serial grammar class reading is_field trips frees
 message = refl
 
 -- and one that trips the supplies at 12 and then at 2: the lower address sends first, each in two digits
@@ -140,12 +140,12 @@ abbrev wide : Setup
 wide = record { models = 3 ∷ 255 ∷ 5 ∷ replicate 9 255 ++ 4 ∷ replicate 18 255 }
 
 two_messages : told (call_of toy (run toy wide []) (serial (codes "A<\rX\rA2\rX\r"))) ≡ 11 ∷ codes "OK\ron\rOK\ron\r!02\r!12\r"
-unfolding told call_of parse byteOn char_on serial grammar class reading is_field trips frees
+unfolding told call_of parse byte_on char_on serial grammar class reading is_field trips frees
 two_messages = refl
 
 -- what counts is the supply before and after the whole field: one that trips and is released within it sends nothing
 no_message : told (call_of toy (run toy setup []) (serial (codes "A2\rX\rR\r"))) ≡ 8 ∷ codes "OK\ron\roff\r"
-unfolding told call_of parse byteOn char_on setup serial grammar class reading is_field trips frees
+unfolding told call_of parse byte_on char_on setup serial grammar class reading is_field trips frees
 no_message = refl
 
 data Kind : Type 0 where

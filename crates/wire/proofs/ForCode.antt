@@ -11,8 +11,8 @@ use borrow.Author.Tests.{eqb-true, eqb-false}
 use Rattle.base.specs.Choice.{pick}
 use Rattle.base.specs.Lists.{each_to}
 use Rattle.base.proofs.Lists.{get_d_any, length_tabulate, get_d_tabulate, tabulate_same, each_to_all}
-use Rattle.wire.specs.Wire.{Entry, Delivery, one, all, say, Item, Grammar, model_at, fitted, Wire, followed, itemOn, scan}
-use Rattle.wire.specs.Rack.{Plain, Rack, next, stateAt, deliver, replies, moved}
+use Rattle.wire.specs.Wire.{Entry, Delivery, one, all, say, Item, Grammar, model_at, fitted, Wire, followed, item_on, scan}
+use Rattle.wire.specs.Rack.{Plain, Rack, next, state_at, deliver, replies, moved}
 use Rattle.wire.specs.declared.Setup.{Setup}
 use Rattle.wire.proofs.Stream.{scan_append}
 use Rattle.wire.proofs.Calls.{moved_twice}
@@ -26,7 +26,7 @@ model_past u a h = get_or-eq_default u.models 255 h
 
 module _ (γ : Grammar) (u : Setup) where
   -- one more item of a stream
-  pub scan_more : (w : Wire) (is : List Item) (i : Item) → scan γ u w (is ++ i ∷ []) ≡ followed (scan γ u w is) (itemOn γ u (scan γ u w is).wire i)
+  pub scan_more : (w : Wire) (is : List Item) (i : Item) → scan γ u w (is ++ i ∷ []) ≡ followed (scan γ u w is) (item_on γ u (scan γ u w is).wire i)
   scan_more w is i = rw (scan_append γ u w is (i ∷ []), append-nil)
 
 module _ (M : Plain) (u : Setup) where
@@ -35,10 +35,10 @@ module _ (M : Plain) (u : Setup) where
   -- slots[a] = step(slots[a], e), whatever stands for a slot past the last
   pub deliver_one : (ss : List State) (a : ℕ) (e : Entry) (d : State) → deliver M u ss (one a e) ≡ set ss a (step (model_at u a) (get_or ss a d) e)
   deliver_one ss a e d =
-      ext_get_or (fresh 255) _ _ (length_tabulate (length ss) (next M u (stateAt M ss) (one a e)) ∙ sym (length-set ss a _))
-      (λ i l. let h : i < length ss = rw length_tabulate at l in get_d_tabulate (length ss) (next M u (stateAt M ss) (one a e)) i (fresh 255) h ∙ by_test i h (eqb i a) refl)
+      ext_get_or (fresh 255) _ _ (length_tabulate (length ss) (next M u (state_at M ss) (one a e)) ∙ sym (length-set ss a _))
+      (λ i l. let h : i < length ss = rw length_tabulate at l in get_d_tabulate (length ss) (next M u (state_at M ss) (one a e)) i (fresh 255) h ∙ by_test i h (eqb i a) refl)
     where
-      by_test : (i : ℕ) → i < length ss → (t : Bool) → eqb i a ≡ t → next M u (stateAt M ss) (one a e) i ≡ get_or (set ss a (step (model_at u a) (get_or ss a d) e)) i (fresh 255)
+      by_test : (i : ℕ) → i < length ss → (t : Bool) → eqb i a ≡ t → next M u (state_at M ss) (one a e) i ≡ get_or (set ss a (step (model_at u a) (get_or ss a d) e)) i (fresh 255)
       by_test i h true q =
           let j : a < length ss = rw (eqb-true i a q) at h in
           rw (q, eqb-true i a q, get_d_any ss a (fresh 255) d j) (sym (get_or-set_same ss a _ (fresh 255) j))
@@ -65,7 +65,7 @@ module _ (M : Plain) (r : Rack M.State) (is : List Item) (i : Item) where
   abbrev before : Rack State
   before = moved M r (scan grammar r.setup r.wire is)
 
-  pub moved_more : moved M r (scan grammar r.setup r.wire (is ++ i ∷ [])) ≡ moved M before (itemOn grammar r.setup before.wire i)
+  pub moved_more : moved M r (scan grammar r.setup r.wire (is ++ i ∷ [])) ≡ moved M before (item_on grammar r.setup before.wire i)
   moved_more =
       ap (moved M r) (scan_more grammar r.setup r.wire is i)
-      ∙ moved_twice M r (scan grammar r.setup r.wire is) (itemOn grammar r.setup before.wire i)
+      ∙ moved_twice M r (scan grammar r.setup r.wire is) (item_on grammar r.setup before.wire i)

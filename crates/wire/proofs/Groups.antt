@@ -10,7 +10,7 @@ use Rattle.base.proofs.Lists.{length_tabulate, get_d_tabulate, tabulate_same}
 use Rattle.wire.specs.Machine.{keep}
 use Rattle.wire.specs.Wire.{Delivery, one, all, say, model_at, fitted, Call, fresh_wire, scan}
 use Rattle.wire.specs.Share.{stream, brought, joint_share}
-use Rattle.wire.specs.Rack.{Plain, next, stateAt, deliver, freshRack, run, slot, together}
+use Rattle.wire.specs.Rack.{Plain, next, state_at, deliver, fresh_rack, run, slot, together}
 use Rattle.wire.specs.Groups.{touching, Closed, GroupEnds, GroupAlike}
 use Rattle.wire.specs.declared.Setup.{Setup}
 use Rattle.wire.proofs.Machine.{project}
@@ -27,13 +27,13 @@ module _ (M : Plain) where
   skip_said u ss (all e ∷ ds) = skip_said u (deliver M u ss (all e)) ds
   skip_said u ss (say t ∷ ds) = rw (tabulate_same (fresh 255) ss) (skip_said u ss ds)
 
-  run_brought : (u : Setup) (calls : List Call) → (run M u calls).slots ≡ foldl (deliver M u) (freshRack M u).slots (brought grammar u calls)
+  run_brought : (u : Setup) (calls : List Call) → (run M u calls).slots ≡ foldl (deliver M u) (fresh_rack M u).slots (brought grammar u calls)
   run_brought u calls =
-      ap (λ r. r.slots) (run_moved M (freshRack M u) calls)
-      ∙ skip_said u (freshRack M u).slots (scan grammar u fresh_wire (stream grammar u calls)).sent
-      ∙ ap (foldl (deliver M u) (freshRack M u).slots) (sent_brought grammar u calls)
+      ap (λ r. r.slots) (run_moved M (fresh_rack M u) calls)
+      ∙ skip_said u (fresh_rack M u).slots (scan grammar u fresh_wire (stream grammar u calls)).sent
+      ∙ ap (foldl (deliver M u) (fresh_rack M u).slots) (sent_brought grammar u calls)
 
-  fresh_at : (u : Setup) (a : ℕ) → fitted u a ≡ true → slot M (freshRack M u) a ≡ fresh (model_at u a)
+  fresh_at : (u : Setup) (a : ℕ) → fitted u a ≡ true → slot M (fresh_rack M u) a ≡ fresh (model_at u a)
   fresh_at u a f = get_d_tabulate (length u.models) (λ b. fresh (model_at u b)) a (fresh 255) (fitted_below u a f)
 
   -- no slot acts on another: any set of fitted addresses is a closed group
@@ -58,11 +58,11 @@ module _ (M : Plain) where
     -- a closed group of u, run beside the setup v
     group_in : (u v : Setup) (calls : List Call) → Closed M u v g touches → (a : ℕ) → g a ≡ true → slot M (run M u calls) a ≡ together M v (joint_share grammar u calls touches) a
     group_in u v calls C a i =
-        ap (λ (ss : List State). stateAt M ss a) (run_brought u calls)
+        ap (λ (ss : List State). state_at M ss a) (run_brought u calls)
         ∙ project (fresh 255) (next M u) (next M v) g touches (length u.models)
         (λ b j. fitted_below u b (C.inside b j))
         C.local C.frame
-        (freshRack M u).slots (λ b. fresh (model_at v b)) (brought grammar u calls)
+        (fresh_rack M u).slots (λ b. fresh (model_at v b)) (brought grammar u calls)
         (length_tabulate (length u.models) (λ b. fresh (model_at u b)))
         (λ b j. fresh_at u b (C.inside b j) ∙ ap fresh (C.models b j))
         a i

@@ -10,9 +10,9 @@ use lib.Dec.{eqb, ltb}
 use lib.ListN.{length, length-append, length-take}
 use borrow.Author.Tests.{ltb-true}
 use Rattle.base.specs.Choice.{pick}
-use Rattle.wire.specs.Wire.{Class, select, faulty, global, other, Grammar, fitted, Wire, Sent, Call, Item, byte, event, nobody, fresh_wire, by_class, char_on, byteOn, itemOn, scan, LawfulWire}
+use Rattle.wire.specs.Wire.{Class, select, faulty, global, other, Grammar, fitted, Wire, Sent, Call, Item, byte, event, nobody, fresh_wire, by_class, char_on, byte_on, item_on, scan, LawfulWire}
 use Rattle.wire.specs.Share.{stream}
-use Rattle.wire.specs.Rack.{Plain, Rack, run_from, freshRack, run}
+use Rattle.wire.specs.Rack.{Plain, Rack, run_from, fresh_rack, run}
 use Rattle.wire.specs.declared.Setup.{Setup}
 use Rattle.wire.proofs.Calls.{run_moved}
 
@@ -43,20 +43,20 @@ module _ (u : Setup) where
 
 module _ (γ : Grammar) (u : Setup) where
   -- each byte, item and stream leaves a line in bounds
-  pub byte_lawful : (w : Wire) (b : ℕ) → LawfulWire u w → LawfulWire u (byteOn γ u w b).wire
-  unfolding byteOn
+  pub byte_lawful : (w : Wire) (b : ℕ) → LawfulWire u w → LawfulWire u (byte_on γ u w b).wire
+  unfolding byte_on
   byte_lawful w b h =
       pick_has (λ (s : Sent). LawfulWire u s.wire) (eqb b 13)
       (λ q. class_lawful u w (γ.class_of w.kept w.spoiled) h)
       (λ q. char_lawful u w b h)
 
-  pub item_lawful : (w : Wire) (i : Item) → LawfulWire u w → LawfulWire u (itemOn γ u w i).wire
+  pub item_lawful : (w : Wire) (i : Item) → LawfulWire u w → LawfulWire u (item_on γ u w i).wire
   item_lawful w (byte b) h = byte_lawful w b h
   item_lawful w (event a e) h = h
 
   pub scan_lawful : (w : Wire) (is : List Item) → LawfulWire u w → LawfulWire u (scan γ u w is).wire
   scan_lawful w [] h = h
-  scan_lawful w (i ∷ is) h = scan_lawful (itemOn γ u w i).wire is (item_lawful w i h)
+  scan_lawful w (i ∷ is) h = scan_lawful (item_on γ u w i).wire is (item_lawful w i h)
 
 module _ (M : Plain) where
   open M use {State, grammar}
@@ -66,4 +66,4 @@ module _ (M : Plain) where
   run_lawful r calls h = rw (run_moved M r calls) (scan_lawful grammar r.setup r.wire (stream grammar r.setup calls) h)
 
   pub run_fresh_lawful : (u : Setup) (calls : List Call) → LawfulWire u (run M u calls).wire
-  run_fresh_lawful u calls = run_lawful (freshRack M u) calls (fresh_lawful u)
+  run_fresh_lawful u calls = run_lawful (fresh_rack M u) calls (fresh_lawful u)

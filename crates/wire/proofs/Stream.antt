@@ -9,7 +9,7 @@ use lib.ListN.{length}
 use borrow.Author.Tests.{eqb-true}
 use Rattle.base.specs.Choice.{pick}
 use Rattle.wire.specs.Machine.{given, keep, flat}
-use Rattle.wire.specs.Wire.{Entry, line, Delivery, one, all, say, Class, select, faulty, global, other, Grammar, fitted, Wire, quiet, followed, Item, byte, event, Call, nobody, fresh_wire, parse, by_class, char_on, byteOn, itemOn, scan}
+use Rattle.wire.specs.Wire.{Entry, line, Delivery, one, all, say, Class, select, faulty, global, other, Grammar, fitted, Wire, quiet, followed, Item, byte, event, Call, nobody, fresh_wire, parse, by_class, char_on, byte_on, item_on, scan}
 use Rattle.wire.specs.Share.{items, stream, TypedLine, typing, typed, arrivals, selected, handed, routes, brought, for_slot, share_of}
 use Rattle.wire.specs.declared.Setup.{Setup}
 use Rattle.wire.proofs.Machine.{keep_append, flat_append}
@@ -62,16 +62,16 @@ module _ (u : Setup) where
   after_cr w other = refl
 
 module _ (γ : Grammar) (u : Setup) where
-  on_cr : (w : Wire) → byteOn γ u w 13 ≡ by_class u w (γ.class_of w.kept w.spoiled)
-  unfolding byteOn
+  on_cr : (w : Wire) → byte_on γ u w 13 ≡ by_class u w (γ.class_of w.kept w.spoiled)
+  unfolding byte_on
   on_cr w = refl
 
   -- any byte other than CR only types
-  pub on_other : (w : Wire) (b : ℕ) → eqb b 13 ≡ false → byteOn γ u w b ≡ quiet (char_on w b)
-  unfolding byteOn
+  pub on_other : (w : Wire) (b : ℕ) → eqb b 13 ≡ false → byte_on γ u w b ≡ quiet (char_on w b)
+  unfolding byte_on
   on_other w b r = rw r refl
 
-  pub on_char : (sel : ℕ) (t : TypedLine) (b : ℕ) → eqb b 13 ≡ false → byteOn γ u (wire_of sel t) b ≡ quiet (wire_of sel (typing t b))
+  pub on_char : (sel : ℕ) (t : TypedLine) (b : ℕ) → eqb b 13 ≡ false → byte_on γ u (wire_of sel t) b ≡ quiet (wire_of sel (typing t b))
   unfolding char_on
   on_char sel t b r =
       on_other (wire_of sel t) b r ∙ ap quiet (pushed (wire_of sel) (eqb b 10) (eqb b 8) (ltb (length t.kept) 64) t _ _ _)
@@ -101,7 +101,7 @@ module _ (γ : Grammar) (u : Setup) where
   -- the stream may be split anywhere: the line carries over
   pub scan_append : (w : Wire) (is js : List Item) → scan γ u w (is ++ js) ≡ followed (scan γ u w is) (scan γ u (scan γ u w is).wire js)
   scan_append w [] js = refl
-  scan_append w (i ∷ is) js = rw (scan_append (itemOn γ u w i).wire is js, append_assoc)
+  scan_append w (i ∷ is) js = rw (scan_append (item_on γ u w i).wire is js, append_assoc)
 
 module _ (γ : Grammar) (u : Setup) (past rest : List Call) where
   -- what the later calls bring

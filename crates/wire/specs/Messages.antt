@@ -4,7 +4,7 @@ use Rattle.std.specs.Prelude.{◌≡◌, false, ℕ, ◌*◌, ◌≤◌, ◌<◌
 use mathlib.Core.List.{List, [], foldl}
 use Rattle.wire.specs.Machine.{keep}
 use Rattle.wire.specs.Wire.{Delivery}
-use Rattle.wire.specs.Rack.{Plain, stateAt, deliver, sends, messages}
+use Rattle.wire.specs.Rack.{Plain, state_at, deliver, sends, messages}
 use Rattle.wire.specs.Groups.{touching}
 use Rattle.wire.specs.declared.Setup.{Setup}
 
@@ -14,16 +14,16 @@ Still M = (s : M.State) → M.rings s s ≡ false
 
 module _ (M : Plain) (u : Setup) (ss : List M.State) (ds : List Delivery) where
   -- the slots after the deliveries of a field
-  abbrev pub leftBy : List M.State
-  leftBy = foldl (deliver M u) ss ds
+  abbrev pub left_by : List M.State
+  left_by = foldl (deliver M u) ss ds
 
   pub record MessagesSent : Type 0 where
     -- an address that no delivery reaches sends nothing
     pub unreached :
-        (a : ℕ) → keep (touching (eqb a)) ds ≡ [] → sends M a (stateAt M ss a) (stateAt M leftBy a) ≡ []
+        (a : ℕ) → keep (touching (eqb a)) ds ≡ [] → sends M a (state_at M ss a) (state_at M left_by a) ≡ []
     -- if the deliveries reach address k alone, its message, if it sends one, is all that is sent
     pub alone :
         (k : ℕ) → k < length ss → ((a : ℕ) → (a ≡ k → ⊥) → keep (touching (eqb a)) ds ≡ [])
-        → messages M ss leftBy ≡ sends M k (stateAt M ss k) (stateAt M leftBy k)
+        → messages M ss left_by ≡ sends M k (state_at M ss k) (state_at M left_by k)
     -- at most four bytes for each slot
-    pub short : length (messages M ss leftBy) ≤ 4 * length ss
+    pub short : length (messages M ss left_by) ≤ 4 * length ss

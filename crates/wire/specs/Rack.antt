@@ -42,21 +42,21 @@ module _ (M : Plain) where
   next u f (say t) a = f a
 
   -- the state at each address
-  abbrev pub stateAt : List State → ℕ → State
-  stateAt ss a = get_or ss a (fresh 255)
+  abbrev pub state_at : List State → ℕ → State
+  state_at ss a = get_or ss a (fresh 255)
 
   abbrev pub deliver : Setup → List State → Delivery → List State
-  deliver u ss d = tabulate (length ss) (next u (stateAt ss) d)
+  deliver u ss d = tabulate (length ss) (next u (state_at ss) d)
 
   -- the reply to a delivery; a global draws none
-  abbrev pub drawnFrom : Setup → List State → Delivery → List ℕ
-  drawnFrom u ss (one a e) = reply (model_at u a) (stateAt ss a) e
-  drawnFrom u ss (all e) = []
-  drawnFrom u ss (say t) = t
+  abbrev pub drawn_from : Setup → List State → Delivery → List ℕ
+  drawn_from u ss (one a e) = reply (model_at u a) (state_at ss a) e
+  drawn_from u ss (all e) = []
+  drawn_from u ss (say t) = t
 
   abbrev pub replies : Setup → List State → List Delivery → List ℕ
   replies u ss [] = []
-  replies u ss (d ∷ ds) = drawnFrom u ss d ++ replies u (deliver u ss d) ds
+  replies u ss (d ∷ ds) = drawn_from u ss d ++ replies u (deliver u ss d) ds
 
   -- the rack after the deliveries that the line has handed out
   abbrev pub moved : Rack State → Sent → Rack State
@@ -68,19 +68,19 @@ module _ (M : Plain) where
 
   -- THE SERVICE MESSAGES after a field that took the slots from ss to ts: those of the first n addresses, lowest first;
   -- and of all
-  abbrev pub messagesTo : ℕ → List State → List State → List ℕ
-  messagesTo zero ss ts = []
-  messagesTo (suc n) ss ts = messagesTo n ss ts ++ sends n (stateAt ss n) (stateAt ts n)
+  abbrev pub messages_to : ℕ → List State → List State → List ℕ
+  messages_to zero ss ts = []
+  messages_to (suc n) ss ts = messages_to n ss ts ++ sends n (state_at ss n) (state_at ts n)
 
   abbrev pub messages : List State → List State → List ℕ
-  messages ss ts = messagesTo (length ts) ss ts
+  messages ss ts = messages_to (length ts) ss ts
 
   -- what a field draws, where ss are the slots as they were when it arrived: its replies, then the messages
-  abbrev pub drawnSince : List State → Rack State → Sent → List ℕ
-  drawnSince ss r s = replies r.setup r.slots s.sent ++ messages ss (moved r s).slots
+  abbrev pub drawn_since : List State → Rack State → Sent → List ℕ
+  drawn_since ss r s = replies r.setup r.slots s.sent ++ messages ss (moved r s).slots
 
   abbrev pub answered : Rack State → ℕ → Sent → CallResult State
-  answered r used s = done (moved r s) used (drawnSince r.slots r s)
+  answered r used s = done (moved r s) used (drawn_since r.slots r s)
 
   abbrev pub result_of : Rack State → Parsed → CallResult State
   result_of r (refuse n) = refused n
@@ -101,15 +101,15 @@ module _ (M : Plain) where
   run_from r (c ∷ cs) = run_from (after r (call_of r c)) cs
 
   -- the fresh rack
-  abbrev pub freshRack : Setup → Rack State
-  freshRack u = record { setup = u; slots = tabulate (length u.models) (λ a. fresh (model_at u a)); wire = fresh_wire }
+  abbrev pub fresh_rack : Setup → Rack State
+  fresh_rack u = record { setup = u; slots = tabulate (length u.models) (λ a. fresh (model_at u a)); wire = fresh_wire }
 
   abbrev pub run : Setup → List Call → Rack State
-  run u calls = run_from (freshRack u) calls
+  run u calls = run_from (fresh_rack u) calls
 
   -- the supply at an address
   abbrev pub slot : Rack State → ℕ → State
-  slot r a = stateAt r.slots a
+  slot r a = state_at r.slots a
 
   -- a fresh plain supply of a model after a list of entries
   abbrev pub plain : ℕ → List Entry → State

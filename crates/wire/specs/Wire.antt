@@ -105,18 +105,18 @@ char_on w b =
 
 module _ (γ : Grammar) (u : Setup) where
   -- a serial byte: CR (13) ends the line
-  unfoldable pub byteOn : Wire → ℕ → Sent
-  byteOn w b = pick (eqb b 13) (by_class u w (γ.class_of w.kept w.spoiled)) (quiet (char_on w b))
+  unfoldable pub byte_on : Wire → ℕ → Sent
+  byte_on w b = pick (eqb b 13) (by_class u w (γ.class_of w.kept w.spoiled)) (quiet (char_on w b))
 
   -- an item of the stream; a field of another tag leaves the line as it is
-  abbrev pub itemOn : Wire → Item → Sent
-  itemOn w (byte b) = byteOn w b
-  itemOn w (event a e) = record { wire = w; sent = one a e ∷ [] }
+  abbrev pub item_on : Wire → Item → Sent
+  item_on w (byte b) = byte_on w b
+  item_on w (event a e) = record { wire = w; sent = one a e ∷ [] }
 
   -- the items of a stream, each on the line that the one before it left
   abbrev pub scan : Wire → List Item → Sent
   scan w [] = quiet w
-  scan w (i ∷ is) = followed (itemOn w i) (scan (itemOn w i).wire is)
+  scan w (i ∷ is) = followed (item_on w i) (scan (item_on w i).wire is)
 
   -- a call is judged by its reply buffer first, then by its bytes
   unfoldable pub parse : Call → Parsed

@@ -13,7 +13,7 @@ use lib.Seq.{ext_get_or}
 use borrow.Author.Tests.{ne_eqb, eq-eqb, eqb-true, ltb-true, leb-true, not-true}
 use Rattle.base.specs.Choice.{pick}
 use Rattle.base.proofs.Choice.{neither}
-use Rattle.words.specs.Words.{upper, upper_all, packed, pack, word_number, same_word, is_one_of, Row, findWord, findNumber}
+use Rattle.words.specs.Words.{upper, upper_all, packed, pack, word_number, same_word, is_one_of, Row, find_word, find_number}
 
 -- every element is a byte
 abbrev pub Bytes : List ℕ → Type 0
@@ -100,112 +100,112 @@ module _ {A : Type 0} (none : A) where
   keys_of t = map (λ (e : Row A). pack e.0) t
 
   -- a number that is none of them finds no row
-  pub find_none : (t : List (Row A)) (x : ℕ) (P : Type 0) → NoneOf (keys_of t) x P → findNumber none t x ≡ none
-  unfolding findNumber
+  pub find_none : (t : List (Row A)) (x : ℕ) (P : Type 0) → NoneOf (keys_of t) x P → find_number none t x ≡ none
+  unfolding find_number
   find_none [] x P h = refl
   find_none (e ∷ t) x P h =
       rw (ne_eqb (pack e.0) x (λ q. (none_front (keys_of t) x (P × (x ≡ pack e.0 → ⊥)) h).1 (sym q)))
       (find_none t x (P × (x ≡ pack e.0 → ⊥)) h)
 
   -- every word of a table has at most five characters, all of them bytes: a test that computes
-  abbrev pub fitTable : List (Row A) → Bool
-  fitTable [] = true
-  fitTable (e ∷ es) = are_bytes e.0 && (leb (length e.0) 5 && fitTable es)
+  abbrev pub fit_table : List (Row A) → Bool
+  fit_table [] = true
+  fit_table (e ∷ es) = are_bytes e.0 && (leb (length e.0) 5 && fit_table es)
 
-  find_same : (t : List (Row A)) → fitTable t ≡ true → (w : List ℕ) → Bytes w → findNumber none t (pack w) ≡ findWord none t w
-  unfolding findNumber findWord
+  find_same : (t : List (Row A)) → fit_table t ≡ true → (w : List ℕ) → Bytes w → find_number none t (pack w) ≡ find_word none t w
+  unfolding find_number find_word
   find_same [] f w h = refl
   find_same (e ∷ t) f w h =
-      let p = (and-eq-true_iff (are_bytes e.0) (leb (length e.0) 5 && fitTable t)).0 f in
-      let q = (and-eq-true_iff (leb (length e.0) 5) (fitTable t)).0 p.1 in
+      let p = (and-eq-true_iff (are_bytes e.0) (leb (length e.0) 5 && fit_table t)).0 f in
+      let q = (and-eq-true_iff (leb (length e.0) 5) (fit_table t)).0 p.1 in
       rw (key_same e.0 w (bytes_of e.0 p.0) h, find_same t q.1 w h) refl
 
   -- a longer word is not in the table
-  find_long : (t : List (Row A)) → fitTable t ≡ true → (w : List ℕ) → 5 < length w → findWord none t w ≡ none
-  unfolding findWord
+  find_long : (t : List (Row A)) → fit_table t ≡ true → (w : List ℕ) → 5 < length w → find_word none t w ≡ none
+  unfolding find_word
   find_long [] f w h = refl
   find_long (e ∷ t) f w h =
-      let p = (and-eq-true_iff (are_bytes e.0) (leb (length e.0) 5 && fitTable t)).0 f in
-      let q = (and-eq-true_iff (leb (length e.0) 5) (fitTable t)).0 p.1 in
+      let p = (and-eq-true_iff (are_bytes e.0) (leb (length e.0) 5 && fit_table t)).0 f in
+      let q = (and-eq-true_iff (leb (length e.0) 5) (fit_table t)).0 p.1 in
       by_test (same_word e.0 w) refl (leb-true (length e.0) 5 q.0) (find_long t q.1 w h)
     where
-      by_test : (b : Bool) → same_word e.0 w ≡ b → length e.0 ≤ 5 → findWord none t w ≡ none → pick b e.1 (findWord none t w) ≡ none
+      by_test : (b : Bool) → same_word e.0 w ≡ b → length e.0 ≤ 5 → find_word none t w ≡ none → pick b e.1 (find_word none t w) ≡ none
       by_test true s l r = absurd (omega (arith, ap length (same_eq e.0 w s)))
       by_test false s l r = r
 
   -- every row passes a test of its word's length and its value: this computes
-  abbrev pub everyRow : (ℕ → A → Bool) → List (Row A) → Bool
-  everyRow f [] = true
-  everyRow f (e ∷ es) = f (length e.0) e.1 && everyRow f es
+  abbrev pub every_row : (ℕ → A → Bool) → List (Row A) → Bool
+  every_row f [] = true
+  every_row f (e ∷ es) = f (length e.0) e.1 && every_row f es
 
   -- then any word passes it with the value it finds, if it passes with the default
   pub find_passes :
-      (f : ℕ → A → Bool) (t : List (Row A)) → everyRow f t ≡ true
-      → (w : List ℕ) → f (length w) none ≡ true → f (length w) (findWord none t w) ≡ true
-  unfolding findWord
+      (f : ℕ → A → Bool) (t : List (Row A)) → every_row f t ≡ true
+      → (w : List ℕ) → f (length w) none ≡ true → f (length w) (find_word none t w) ≡ true
+  unfolding find_word
   find_passes f [] h w p = p
   find_passes f (e ∷ t) h w p =
-      let q = (and-eq-true_iff (f (length e.0) e.1) (everyRow f t)).0 h in
+      let q = (and-eq-true_iff (f (length e.0) e.1) (every_row f t)).0 h in
       by_test (same_word e.0 w) refl q.0 (find_passes f t q.1 w p)
     where
       by_test :
           (b : Bool) → same_word e.0 w ≡ b → f (length e.0) e.1 ≡ true
-          → f (length w) (findWord none t w) ≡ true → f (length w) (pick b e.1 (findWord none t w)) ≡ true
+          → f (length w) (find_word none t w) ≡ true → f (length w) (pick b e.1 (find_word none t w)) ≡ true
       by_test true s here r = rw (← same_eq e.0 w s) here
       by_test false s here r = r
 
   -- the words of the rows that pass a test
-  abbrev pub wordsWhere : (A → Bool) → List (Row A) → List (List ℕ)
-  wordsWhere f [] = []
-  wordsWhere f (e ∷ es) = pick (f e.1) (e.0 ∷ wordsWhere f es) (wordsWhere f es)
+  abbrev pub words_where : (A → Bool) → List (Row A) → List (List ℕ)
+  words_where f [] = []
+  words_where f (e ∷ es) = pick (f e.1) (e.0 ∷ words_where f es) (words_where f es)
 
   -- no word occurs twice in the table: a test that computes
-  abbrev pub wordsOnce : List (Row A) → Bool
-  wordsOnce [] = true
-  wordsOnce (e ∷ es) = not (is_one_of (map (λ (r : Row A). r.0) es) e.0) && wordsOnce es
+  abbrev pub words_once : List (Row A) → Bool
+  words_once [] = true
+  words_once (e ∷ es) = not (is_one_of (map (λ (r : Row A). r.0) es) e.0) && words_once es
 
-  where_none : (f : A → Bool) (t : List (Row A)) (w : List ℕ) → is_one_of (map (λ (r : Row A). r.0) t) w ≡ false → is_one_of (wordsWhere f t) w ≡ false
+  where_none : (f : A → Bool) (t : List (Row A)) (w : List ℕ) → is_one_of (map (λ (r : Row A). r.0) t) w ≡ false → is_one_of (words_where f t) w ≡ false
   where_none f [] w h = refl
   where_none f (e ∷ t) w h =
       let q = neither (same_word e.0 w) (is_one_of (map (λ (r : Row A). r.0) t) w) h in
       by_test (f e.1) q.0 (where_none f t w q.1)
     where
       by_test :
-          (b : Bool) → same_word e.0 w ≡ false → is_one_of (wordsWhere f t) w ≡ false
-          → is_one_of (pick b (e.0 ∷ wordsWhere f t) (wordsWhere f t)) w ≡ false
+          (b : Bool) → same_word e.0 w ≡ false → is_one_of (words_where f t) w ≡ false
+          → is_one_of (pick b (e.0 ∷ words_where f t) (words_where f t)) w ≡ false
       by_test true s r = rw (s, r) refl
       by_test false s r = r
 
   -- if the default fails a test, a word's value passes it exactly when the word is in a row that passes
   pub find_where :
       (f : A → Bool) → f none ≡ false
-      → (t : List (Row A)) → wordsOnce t ≡ true → (w : List ℕ) → f (findWord none t w) ≡ is_one_of (wordsWhere f t) w
-  unfolding findWord
+      → (t : List (Row A)) → words_once t ≡ true → (w : List ℕ) → f (find_word none t w) ≡ is_one_of (words_where f t) w
+  unfolding find_word
   find_where f n [] h w = n
   find_where f n (e ∷ t) h w =
-      let q = (and-eq-true_iff (not (is_one_of (map (λ (r : Row A). r.0) t) e.0)) (wordsOnce t)).0 h in
+      let q = (and-eq-true_iff (not (is_one_of (map (λ (r : Row A). r.0) t) e.0)) (words_once t)).0 h in
       by_test (same_word e.0 w) (f e.1) refl refl (not-true (is_one_of (map (λ (r : Row A). r.0) t) e.0) q.0) (find_where f n t q.1 w)
     where
       by_test :
           (b p : Bool) → same_word e.0 w ≡ b → f e.1 ≡ p → is_one_of (map (λ (r : Row A). r.0) t) e.0 ≡ false
-          → f (findWord none t w) ≡ is_one_of (wordsWhere f t) w
-          → f (pick b e.1 (findWord none t w)) ≡ is_one_of (pick p (e.0 ∷ wordsWhere f t) (wordsWhere f t)) w
+          → f (find_word none t w) ≡ is_one_of (words_where f t) w
+          → f (pick b e.1 (find_word none t w)) ≡ is_one_of (pick p (e.0 ∷ words_where f t) (words_where f t)) w
       by_test true true s g o r = rw (s, g) refl
       by_test true false s g o r = g ∙ sym (where_none f t w (rw (← same_eq e.0 w s) o))
       by_test false true s g o r = rw s r
       by_test false false s g o r = r
 
   -- 0 is no word's number
-  find_zero : (t : List (Row A)) → findNumber none t 0 ≡ none
-  unfolding findNumber
+  find_zero : (t : List (Row A)) → find_number none t 0 ≡ none
+  unfolding find_number
   find_zero [] = refl
   find_zero (e ∷ t) = rw (ne_eqb (pack e.0) 0 (λ q. omega (arith, packed_some e.0 (length e.0))), find_zero t) refl
 
   -- THE TABLE BY NUMBER is the table by characters
-  pub find_by_number : (t : List (Row A)) → fitTable t ≡ true → (w : List ℕ) → Bytes w → findNumber none t (word_number w) ≡ findWord none t (upper_all w)
+  pub find_by_number : (t : List (Row A)) → fit_table t ≡ true → (w : List ℕ) → Bytes w → find_number none t (word_number w) ≡ find_word none t (upper_all w)
   unfolding word_number
   find_by_number t f w h = by_test (ltb 5 (length w)) refl
     where
-      by_test : (b : Bool) → ltb 5 (length w) ≡ b → findNumber none t (pick b 0 (packed (upper_all w) (length w))) ≡ findWord none t (upper_all w)
+      by_test : (b : Bool) → ltb 5 (length w) ≡ b → find_number none t (pick b 0 (packed (upper_all w) (length w))) ≡ find_word none t (upper_all w)
       by_test true l = find_zero t ∙ sym (find_long t f (upper_all w) (rw (length-map w upper) (ltb-true 5 (length w) l)))
       by_test false l = rw (← length-map w upper) (find_same t f (upper_all w) (up_bytes w h))

@@ -38,11 +38,11 @@ Row A = List ℕ × A
 
 module _ {A : Type 0} (none : A) where
   -- the value beside a word in capitals, found by its characters
-  unfoldable pub findWord : List (Row A) → List ℕ → A
-  findWord [] w = none
-  findWord (e ∷ es) w = pick (same_word e.0 w) e.1 (findWord es w)
+  unfoldable pub find_word : List (Row A) → List ℕ → A
+  find_word [] w = none
+  find_word (e ∷ es) w = pick (same_word e.0 w) e.1 (find_word es w)
 
   -- the same value, found by the word's number
-  unfoldable pub findNumber : List (Row A) → ℕ → A
-  findNumber [] x = none
-  findNumber (e ∷ es) x = pick (eqb (pack e.0) x) e.1 (findNumber es x)
+  unfoldable pub find_number : List (Row A) → ℕ → A
+  find_number [] x = none
+  find_number (e ∷ es) x = pick (eqb (pack e.0) x) e.1 (find_number es x)

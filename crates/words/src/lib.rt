@@ -1,5 +1,7 @@
 // Layer ground.
 // Words in either case, held as numbers: a leading 1, then one byte for each character, in capitals.
+#![tactic(auto)]
+
 ghost use Rattle.std.specs.Prelude.{◌≡◌, ◌≤◌, length};
 ghost use Rattle.words.specs.Words.{upper, packed, upper_all, word_number};
 

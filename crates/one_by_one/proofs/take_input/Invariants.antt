@@ -1,0 +1,19 @@
+-- each call continues the cycles before it, has a rack and a buffer as `take_field` requires, and leaves fewer reads to be
+-- made or fewer bytes to be worked
+use Rattle.std.proofs.Common.{◌≡◌, true, length}
+use Rattle.slots.specs.View.{view_of, Able}
+use Rattle.stream.proofs.Loop.{At, weight}
+use Rattle.one_by_one.proofs.take_input.Given as goal
+
+abbrev pub invariant-loop-more : goal.invariant-loop-more
+invariant-loop-more l =
+    record {
+      room_size : length l.room ≡ length l.initial.room;
+      out_size : length l.out ≡ length l.initial.out;
+      able : Able l.rack;
+      at : At (view_of l.initial.rack) (view_of l.rack) l.room l.block l.code l.more;
+      sends : l.more ≡ true → l.sent ≡ true;
+    }
+
+abbrev pub decreases-loop-more : goal.decreases-loop-more
+decreases-loop-more l = weight l.block l.code
