@@ -193,8 +193,8 @@ fn defined(text: &str, name: &str, argument: &str) -> String {
 fn taken_by(order: &str) -> String {
     let text = read("crates/asks/specs/Words.antt");
     let kind = match order.strip_prefix("set ") {
-        Some(target) => format!("number {}", defined(&text, "decimalsOf", target)),
-        None => defined(&text, "kindOfOrder", order),
+        Some(target) => format!("number {}", defined(&text, "decimals_of", target)),
+        None => defined(&text, "kind_of_order", order),
     };
     let words = match kind.as_str() {
         "bare" => "none",
@@ -222,7 +222,7 @@ fn page_words(heading: &str) -> BTreeMap<String, String> {
 
 #[test]
 fn the_page_has_every_order_with_what_it_takes() {
-    for (heading, kind) in [("Orders", "toOne"), ("Orders to every supply", "toAll")] {
+    for (heading, kind) in [("Orders", "to_one"), ("Orders to every supply", "to_all")] {
         let wanted: BTreeMap<String, String> =
             words_of(kind).into_iter().map(|(word, order)| (word, taken_by(&order))).collect();
         assert_eq!(page_words(heading), wanted, "{heading}");
@@ -232,7 +232,7 @@ fn the_page_has_every_order_with_what_it_takes() {
 #[test]
 fn the_page_has_every_query_and_adr() {
     let names = |words: BTreeMap<String, String>| words.into_keys().collect::<Vec<_>>();
-    assert_eq!(names(page_words("Queries")), names(words_of("ofOne")));
+    assert_eq!(names(page_words("Queries")), names(words_of("of_one")));
     assert_eq!(names(page_words("Selecting a supply")), names(words_of("selecting")));
 }
 
@@ -258,7 +258,7 @@ fn the_page_has_the_limits_of_every_model() {
         line.split(' ').map(|word| word.parse().expect("a figure")).collect()
     };
     let of_table = |line: &str| {
-        let row = line.trim().strip_prefix("limitsAre ")?.strip_suffix(" ∷")?;
+        let row = line.trim().strip_prefix("limits_are ")?.strip_suffix(" ∷")?;
         Some(figures(row))
     };
     let wanted: Vec<Vec<i64>> = text.lines().filter_map(of_table).collect();
@@ -342,7 +342,8 @@ fn the_readme_stays_short() {
     assert!(bytes <= README_ROOM, "README.md has {bytes} bytes, and {README_ROOM} are its room");
 }
 
-/// The layers of crates.txt, each with its crates: a comment `# layer NAME: ..` begins one.
+/// The layers of crates.txt, each with its crates: a comment `# layer NAME: ..` begins one. A static
+/// library has that word behind its name.
 fn layers() -> Vec<(String, Vec<String>)> {
     let mut found: Vec<(String, Vec<String>)> = Vec::new();
     for line in read("crates.txt").lines() {
@@ -351,7 +352,7 @@ fn layers() -> Vec<(String, Vec<String>)> {
             found.push((name.to_string(), Vec::new()));
         } else if !line.starts_with('#') && line.contains(':') {
             let (_, crates) = found.last_mut().expect("a crate stands in a layer");
-            crates.push(line.split(':').next().unwrap_or_default().to_string());
+            crates.push(line.split([' ', ':']).next().unwrap_or_default().to_string());
         }
     }
     found

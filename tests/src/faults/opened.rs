@@ -4,7 +4,6 @@
 
 use std::fs::{self, File};
 use std::io::{self, Write};
-use std::os::unix::process::ExitStatusExt;
 use std::process::Stdio;
 
 use super::bench::{complaint, end_of, expect_zero, list, shown, Bench};
@@ -34,7 +33,10 @@ pub fn cases() -> Vec<Case> {
             output_fails(bench, File::open("/dev/null"), &[], EBADF)
         }),
         Case::new("a good end with the output closed", closed_and_unused),
-        Case::new("a pipe that nobody reads, its signal not ignored", killed),
+        // Whatever the signal did before, the program ignores it from its start on.
+        Case::new("a pipe that nobody reads, its signal not ignored", |bench| {
+            output_fails(bench, unread(), &[], EPIPE)
+        }),
         Case::new("no standard error to complain to", nobody_to_tell),
         Case::new("a long list and no room at all", long_list),
     ];
@@ -176,18 +178,6 @@ fn closed_and_unused(bench: &Bench) -> Result<(), String> {
     let mut child = command.spawn().map_err(|error| error.to_string())?;
     expect_zero(end_of(&mut child)?)?;
     said.expect("")
-}
-
-/// If the signal is not ignored, the system ends the program, which says nothing.
-fn killed(bench: &Bench) -> Result<(), String> {
-    let (mut command, said) = bench.command(&[])?;
-    let output = unread().map_err(|error| error.to_string())?;
-    command.stdin(bench.file_of(&list(QUERY))?).stdout(output);
-    let mut child = command.spawn().map_err(|error| error.to_string())?;
-    match end_of(&mut child)? {
-        status if status.signal() == Some(SIGPIPE) => said.expect(""),
-        status => Err(format!("it ended with {status}")),
-    }
 }
 
 /// With both outputs gone it still ends.
