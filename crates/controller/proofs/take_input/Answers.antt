@@ -3,8 +3,9 @@ use lib.ListN.{length}
 use borrow.Author.Rules.{rules}
 use Rattle.slots.specs.View.{view_of}
 use Rattle.engine.specs.Engine.{full_at}
-use Rattle.stream.proofs.Loop.{at_start, one_more}
+use Rattle.stream.proofs.Loop.{OneCycle, at_start, one_more}
 use Rattle.controller.proofs.take_input.Goals as goal
+use Rattle.controller.proofs.take_input.Goals.{After-write_out-sent}
 
 pub loop-more-init : goal.loop-more-init
 loop-more-init c =
@@ -16,31 +17,23 @@ loop-more-init c =
       sends = λ t. refl;
     }
 
-pub overflow_add-block : goal.overflow_add-block
-overflow_add-block c =
+-- what refill and the cycle after it leave
+cycled : (c : After-write_out-sent) → OneCycle (view_of c.args.r) (view_of c.cycle-t.result.rack) c.refill-block.new.room c.loop-more.block c.refill-block.result c.loop-more.code c.cycle-t.result.used c.cycle-t.result.code c.write_out-sent.result
+cycled c =
     let long : length c.refill-block.new.room ≡ 8192 = search rules in
-    let z =
     one_more c.loop-more.invariant.at c.loop-more-test.true c.refill-block.ensures long _ _ c.part_to-there.ensures c.part_from.ensures
     (view_of c.cycle-t.result.rack) c.cycle-t.result.used c.cycle-t.ensures.said c.cycle-t.result.code (full_at 7680) c.cycle-t.ensures.is
-    c.write_out-sent.result in
-    search (rules, z.within)
+    c.write_out-sent.result
+
+pub overflow_add-block : goal.overflow_add-block
+overflow_add-block c = search (rules, (cycled (goal.at.overflow_add-block c).After-write_out-sent).within)
 
 pub loop-more-smaller : goal.loop-more-smaller
-loop-more-smaller c =
-    let long : length c.refill-block.new.room ≡ 8192 = search rules in
-    let z =
-    one_more c.loop-more.invariant.at c.loop-more-test.true c.refill-block.ensures long _ _ c.part_to-there.ensures c.part_from.ensures
-    (view_of c.cycle-t.result.rack) c.cycle-t.result.used c.cycle-t.ensures.said c.cycle-t.result.code (full_at 7680) c.cycle-t.ensures.is
-    c.write_out-sent.result in
-    z.less
+loop-more-smaller c = (cycled (goal.at.loop-more-smaller c).After-write_out-sent).less
 
 pub loop-more-preserved : goal.loop-more-preserved
 loop-more-preserved c =
-    let long : length c.refill-block.new.room ≡ 8192 = search rules in
-    let z =
-    one_more c.loop-more.invariant.at c.loop-more-test.true c.refill-block.ensures long _ _ c.part_to-there.ensures c.part_from.ensures
-    (view_of c.cycle-t.result.rack) c.cycle-t.result.used c.cycle-t.ensures.said c.cycle-t.result.code (full_at 7680) c.cycle-t.ensures.is
-    c.write_out-sent.result in
+    let z = cycled (goal.at.loop-more-preserved c).After-write_out-sent in
     record {
       room_size = search rules;
       out_size = search rules;
