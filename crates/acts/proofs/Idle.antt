@@ -11,12 +11,15 @@ use Rattle.supply.specs.declared.Target.{Target}
 use Rattle.supply.specs.declared.Target.TheVariants.{Pv, Pc, Ovp, Uvl}
 use Rattle.supply.specs.declared.Order.{Order}
 use Rattle.supply.specs.declared.Order.TheVariants.{Set}
+use Rattle.supply.specs.declared.ErrorCode.{ErrorCode}
 use Rattle.supply.specs.declared.Query.{Query}
 use Rattle.supply.specs.declared.Act.{Act}
 use Rattle.supply.specs.declared.Act.TheVariants.{Obey, Ask}
+use Rattle.supply.specs.ErrorCodes.{code_byte}
 use Rattle.supply.specs.Flt.{flt_of}
 use Rattle.supply.specs.Memory.{cv_forgotten}
 use Rattle.supply.specs.Registers.{seve_gained, settled}
+use Rattle.supply.proofs.ErrorCodes.{code_not_0}
 use Rattle.supply.proofs.Gains.{feve_idle}
 use Rattle.settings.specs.Settings.{with_setting}
 use Rattle.codes.specs.Codes.{order_code}
@@ -49,15 +52,15 @@ module _ (m : ℕ) (s : Supply) where
   unfolding performed code_of acted clearing_act after_order
   order_closed o e = rw e refl
 
-  -- and a refused one through none
-  pub order_refused : (o : Order) → (order_code m s o ≡ 0 → ⊥) → after_order m s o ≡ performed m s (Obey o)
-  unfolding performed code_of after_order
-  order_refused o n = rw (ne_eqb (order_code m s o) 0 n) refl
-
   -- a refused act changes nothing
   pub unmoved : (a : Act) → (code_of m s a ≡ 0 → ⊥) → performed m s a ≡ s
   unfolding performed
   unmoved a n = pick_false _ _ _ (ne_eqb (code_of m s a) 0 n)
+
+  -- so a refused order leaves the supply as it was
+  pub order_refused : (e : ErrorCode) (o : Order) → code_byte e ≡ order_code m s o → s ≡ performed m s (Obey o)
+  unfolding code_of
+  order_refused e o is = sym (unmoved (Obey o) (λ z. code_not_0 e (is ∙ z)))
 
   -- a figure for a setting moves no bit of FLT, so only SEVE can gain
   pub set_closed : (t : Target) (n : ℕ) → order_code m s (Set t n) ≡ 0

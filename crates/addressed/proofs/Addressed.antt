@@ -8,6 +8,7 @@ use native.Mathlib.Nat.{add-zero}
 use native.Mathlib.Omega.{arith}
 use lib.Dec.{ltb, eqb}
 use lib.ListN.{get_or}
+use Rattle.std.specs.Prelude.{Some, None}
 use borrow.Author.Tests.{ltb-false, eqb-true, eqb-false, ne_eqb}
 use Rattle.base.specs.Choice.{pick}
 use Rattle.base.proofs.Choice.{neither}
@@ -22,6 +23,8 @@ use Rattle.acts.specs.Acts.{performed}
 use Rattle.field.specs.Fields.{tag_of, length_of, payload_of, header_code, is_sample, values_fit, act_of}
 use Rattle.field.proofs.Laws.{header_good, read_refused, read_empty, read_value, read_event, address_byte, sample_head, sample_tag, sample_size, sample_values, sample_act}
 use Rattle.serial.specs.declared.Line.{Line}
+use Rattle.serial.specs.View.{model_in}
+use Rattle.serial.proofs.Models.{model_there}
 use Rattle.plain.specs.Plain.{plain_supply, step_of, reply_to}
 use Rattle.addressed.specs.Pieces.{After, Does, refused_as, is_serial, PieceDoes}
 use Rattle.addressed.specs.Addressed.{sample_model, sample_as}
@@ -84,11 +87,11 @@ sample_done u l x s b at is f =
     rw (a, sample_act s is, sample_size s is) at done
 
 -- a sample whose model is known
-pub sample_known : (u : Setup) (s : List ℕ) (left : ℕ) → (sample_model u s left ≡ 255 → ⊥) → (left ≡ 0) × (is_sample s ≡ true) × (sample_model u s left ≡ model_at u (get_or s 3 0)) × (fitted u (get_or s 3 0) ≡ true)
-sample_known u s left n = by_tests (eqb left 0) refl (is_sample s) refl n
+pub sample_known : (u : Setup) (s : List ℕ) (left m : ℕ) → Some m ≡ model_in (sample_model u s left) → (left ≡ 0) × (is_sample s ≡ true) × (m ≡ model_at u (get_or s 3 0)) × (fitted u (get_or s 3 0) ≡ true)
+sample_known u s left m e = by_tests (eqb left 0) refl (is_sample s) refl e
   where
-    by_tests : (t : Bool) → eqb left 0 ≡ t → (r : Bool) → is_sample s ≡ r → (pick t (pick r (model_at u (get_or s 3 0)) 255) 255 ≡ 255 → ⊥)
-        → (left ≡ 0) × (is_sample s ≡ true) × (pick t (pick r (model_at u (get_or s 3 0)) 255) 255 ≡ model_at u (get_or s 3 0)) × (fitted u (get_or s 3 0) ≡ true)
-    by_tests true e true i k = (eqb-true left 0 e, i, refl, rw (ne_eqb (model_at u (get_or s 3 0)) 255 k) refl)
-    by_tests true e false i k = absurd (k refl)
-    by_tests false e r i k = absurd (k refl)
+    by_tests : (t : Bool) → eqb left 0 ≡ t → (r : Bool) → is_sample s ≡ r → Some m ≡ model_in (pick t (pick r (model_at u (get_or s 3 0)) 255) 255)
+        → (left ≡ 0) × (is_sample s ≡ true) × (m ≡ model_at u (get_or s 3 0)) × (fitted u (get_or s 3 0) ≡ true)
+    by_tests true a true i k = let there = model_there u (get_or s 3 0) m k in (eqb-true left 0 a, i, there.1, there.0)
+    by_tests true a false i k = absurd (let none : Some m ≡ None = k in cc)
+    by_tests false a r i k = absurd (let none : Some m ≡ None = k in cc)

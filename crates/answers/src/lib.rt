@@ -3,26 +3,18 @@
 #![tactic(auto)]
 
 ghost use Rattle.std.specs.Prelude.{◌≡◌};
-ghost use Rattle.answers.specs.Answers.{switch_of, mode_word, running, status_of, answer_of};
+ghost use Rattle.answers.specs.Answers.{mode_word, running, status_of, answer_of};
 
 use supply::{Query, QueryAnswer, Status, Supply, Word};
-
-fn switch_word(on: bool) -> Word
-    ensures { result ≡ switch_of on }
-{
-    if on { Word::On } else { Word::Off }
-}
 
 #[tactic(auto, unfolding(crate::specs::Answers::mode_word))]
 fn mode_word(mode: u8) -> Word
     ensures { result ≡ mode_word mode }
 {
-    if mode == 0 {
-        Word::Loc
-    } else if mode == 1 {
-        Word::Rem
-    } else {
-        Word::Llo
+    match mode {
+        0 => Word::Loc,
+        1 => Word::Rem,
+        _ => Word::Llo,
     }
 }
 
@@ -30,14 +22,12 @@ fn mode_word(mode: u8) -> Word
 fn running_word(model: u8, s: Supply) -> Word
     ensures { result ≡ running model s }
 {
-    if supply::is_on(s) {
-        if supply::in_limit(model, s) {
-            Word::Cc
-        } else {
-            Word::Cv
-        }
-    } else {
+    if !s.is_on() {
         Word::Off
+    } else if s.in_limit(model) {
+        Word::Cc
+    } else {
+        Word::Cv
     }
 }
 
@@ -45,19 +35,13 @@ fn running_word(model: u8, s: Supply) -> Word
 fn status_of(model: u8, s: Supply) -> Status
     ensures { result ≡ status_of model s }
 {
-    let volts = models::volt_reading(model, s.volt_count);
-    let pv = s.pv as u64;
-    let amps = models::amp_reading(model, s.amp_count);
-    let pc = s.pc as u64;
-    let stat = supply::stat(model, s);
-    let flt = supply::flt(s);
     Status {
-        volts,
-        pv,
-        amps,
-        pc,
-        stat,
-        flt,
+        volts: models::volt_reading(model, s.volt_count),
+        pv: u64::from(s.pv),
+        amps: models::amp_reading(model, s.amp_count),
+        pc: u64::from(s.pc),
+        stat: s.stat(model),
+        flt: s.flt(),
     }
 }
 
@@ -67,22 +51,22 @@ pub fn answer_to(model: u8, s: Supply, q: Query) -> QueryAnswer
     ensures { result ≡ answer_of model s q }
 {
     match q {
-        Query::Pv => QueryAnswer::Figure(4, s.pv as u64),
-        Query::Pc => QueryAnswer::Figure(3, s.pc as u64),
-        Query::Ovp => QueryAnswer::Figure(4, s.ovp as u64),
-        Query::Uvl => QueryAnswer::Figure(4, s.uvl as u64),
+        Query::Pv => QueryAnswer::Figure(4, u64::from(s.pv)),
+        Query::Pc => QueryAnswer::Figure(3, u64::from(s.pc)),
+        Query::Ovp => QueryAnswer::Figure(4, u64::from(s.ovp)),
+        Query::Uvl => QueryAnswer::Figure(4, u64::from(s.uvl)),
         Query::Mv => QueryAnswer::Figure(4, models::volt_reading(model, s.volt_count)),
         Query::Mc => QueryAnswer::Figure(3, models::amp_reading(model, s.amp_count)),
-        Query::Out => QueryAnswer::Says(switch_word(supply::is_on(s))),
-        Query::Fld => QueryAnswer::Says(switch_word(s.armed)),
-        Query::Ast => QueryAnswer::Says(switch_word(s.ast)),
+        Query::Out => QueryAnswer::Says(Word::from(s.is_on())),
+        Query::Fld => QueryAnswer::Says(Word::from(s.armed)),
+        Query::Ast => QueryAnswer::Says(Word::from(s.ast)),
         Query::Rmt => QueryAnswer::Says(mode_word(s.mode)),
         Query::Mode => QueryAnswer::Says(running_word(model, s)),
-        Query::Flt => QueryAnswer::Hex(supply::flt(s)),
+        Query::Flt => QueryAnswer::Hex(s.flt()),
         Query::Fena => QueryAnswer::Hex(s.fena),
         Query::Feve => QueryAnswer::Hex(s.feve),
         Query::Stt => QueryAnswer::Tells(status_of(model, s)),
-        Query::Stat => QueryAnswer::Hex(supply::stat(model, s)),
+        Query::Stat => QueryAnswer::Hex(s.stat(model)),
         Query::Sena => QueryAnswer::Hex(s.sena),
         Query::Seve => QueryAnswer::Hex(s.seve),
     }

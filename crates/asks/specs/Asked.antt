@@ -5,8 +5,8 @@ use Rattle.figures.specs.Number.{first_at}
 use Rattle.words.specs.Words.{upper_all}
 use Rattle.supply.specs.declared.Act.TheVariants.{Nothing}
 use Rattle.parameters.specs.Parameters.{is_empty}
-use Rattle.asks.specs.declared.Asks.{Asks}
-use Rattle.asks.specs.declared.Asks.TheVariants.{One}
+use Rattle.asks.specs.Asks.{Asks}
+use Rattle.asks.specs.Asks.{One}
 use Rattle.asks.specs.Words.{command_of, asked_by}
 
 -- the word is everything up to the first space (32), and the parameter everything after it

@@ -1,2 +1,4 @@
+pub mod Asks
 pub mod Words
 pub mod Asked
+pub mod Told

@@ -10,9 +10,9 @@ use Rattle.supply.specs.declared.Order.TheVariants.{Set, Ovm, Out, Fld, Ast, Rmt
 use Rattle.supply.specs.declared.Query.{Query}
 use Rattle.supply.specs.declared.Query.TheVariants as query
 use Rattle.supply.specs.declared.Act.TheVariants.{Obey, Ask}
-use Rattle.parameters.specs.declared.Parameter.{Parameter}
-use Rattle.asks.specs.declared.Asks.{Asks}
-use Rattle.asks.specs.declared.Asks.TheVariants.{Select, BadSelect, Everyone, Nobody, One, Error}
+use Rattle.parameters.specs.Parameters.{Parameter}
+use Rattle.asks.specs.Asks.{Asks}
+use Rattle.asks.specs.Asks.{Select, BadSelect, Everyone, Nobody, One, Error}
 use Rattle.parameters.specs.Parameters.{Kind, bare, number, switch, hex, address, unknown, c01, parameter_of}
 
 -- an order by its word, before its parameter is read
@@ -135,14 +135,6 @@ commands =
 -- the command for a word in capitals
 abbrev pub command_of : List ℕ → Command
 command_of w = find_word unknown_word commands w
-
--- an order to one supply, or the error code of its parameter; and an order to every fitted supply, which nobody takes
--- if its parameter is in error
-abbrev pub one_order : Order → ℕ → Asks
-one_order o c = pick (eqb c 0) (One (Obey o)) (Error c)
-
-abbrev pub all_order : Order → ℕ → Asks
-all_order o c = pick (eqb c 0) (Everyone o) Nobody
 
 -- what a command asks, given its parameter as read, and given the parameter's text
 abbrev pub asked_with : Command → Parameter → Asks

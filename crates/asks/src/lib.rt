@@ -3,157 +3,116 @@
 #![tactic(auto)]
 
 ghost use Rattle.std.specs.Prelude.{◌≡◌, ◌≤◌};
-ghost use Rattle.base.specs.Choice.{pick};
 ghost use Rattle.words.specs.Words.{find_number};
-ghost use Rattle.parameters.specs.Parameters.{bare, number, parameter_of};
-ghost use Rattle.asks.specs.Words.{set, out, fld, ast, rmt, fena, sena, to_one, of_one, to_all, selecting};
-ghost use Rattle.asks.specs.Words.{unknown_word, commands, one_order, all_order, asked_with, asked_by};
+ghost use Rattle.parameters.specs.Parameters.{bare, number, switch, hex, parameter_of};
+ghost use Rattle.asks.specs.Words.{set, out, fld, ast, rmt, fena, sena, of_one, selecting};
+ghost use Rattle.asks.specs.Words.{unknown_word, commands, asked_by};
 ghost use Rattle.asks.specs.Asked.{asks_of};
+ghost use Rattle.asks.specs.Told.{asks_told, one_told, all_told, OrderRead, BareRead};
 
-use supply::{Act, Order, Query, Target};
+use supply::{Act, ErrorCode, Order, Query, Target};
 
 // What a line asks: to select an address (or it is an ADR in error, with its error code); an order to every fitted
 // supply (or it is a global line in error, which nobody takes); an act of one supply; or it is a line in error, with
 // its error code.
-#[derive(Drop)]
+#[derive(Clone, Copy)]
 pub enum Asks {
     Select(u8),
-    BadSelect(u8),
+    BadSelect(ErrorCode),
     Everyone(Order),
     Nobody,
     One(Act),
-    Error(u8),
+    Error(ErrorCode),
 }
 
-pub const C01: u8 = 0xC1;
-
 // An order to one supply, or the error code of its parameter.
-fn one_order(o: Order, code: u8) -> Asks
-    ensures { result ≡ one_order o code }
+fn to_one(order: Result<Order, ErrorCode>) -> Asks
+    ensures { asks_told result ≡ one_told order }
 {
-    if code == 0 {
-        Asks::One(Act::Obey(o))
-    } else {
-        Asks::Error(code)
+    match order {
+        Ok(order) => Asks::One(Act::Obey(order)),
+        Err(code) => Asks::Error(code),
     }
 }
 
 // An order to every fitted supply; nobody takes it if it is in error.
-fn all_order(o: Order, code: u8) -> Asks
-    ensures { result ≡ all_order o code }
+fn to_all(order: Result<Order, ErrorCode>) -> Asks
+    ensures { asks_told result ≡ all_told order }
 {
-    if code == 0 {
-        Asks::Everyone(o)
-    } else {
-        Asks::Nobody
+    match order {
+        Ok(order) => Asks::Everyone(order),
+        Err(_) => Asks::Nobody,
     }
 }
 
-fn set_one(t: Target, k: usize, x: &[u8]) -> Asks
+fn set(t: Target, k: usize, x: &[u8]) -> Result<Order, ErrorCode>
     requires { k ≤ 6 }
-    ensures { result ≡ asked_with (to_one (set t)) (parameter_of (number k) x.now) }
+    ensures { OrderRead (set t) (parameter_of (number k) x.now) result }
 {
-    let p = parameters::number_parameter(x, k);
-    one_order(Order::Set(t, p.value), p.code)
+    Ok(Order::Set(t, parameters::number_parameter(x, k)?))
 }
 
-fn set_all(t: Target, k: usize, x: &[u8]) -> Asks
-    requires { k ≤ 6 }
-    ensures { result ≡ asked_with (to_all (set t)) (parameter_of (number k) x.now) }
+fn out(x: &[u8]) -> Result<Order, ErrorCode>
+    ensures { OrderRead out (parameter_of (switch 1) x.now) result }
 {
-    let p = parameters::number_parameter(x, k);
-    all_order(Order::Set(t, p.value), p.code)
+    Ok(Order::Out(parameters::switch_parameter(x, 1)? == 1))
 }
 
-#[tactic(auto, unfolding(crate::specs::Words::asked_by))]
-fn out_one(x: &[u8]) -> Asks
-    ensures { result ≡ asked_by (to_one out) x.now }
+fn fld(x: &[u8]) -> Result<Order, ErrorCode>
+    ensures { OrderRead fld (parameter_of (switch 1) x.now) result }
 {
-    let p = parameters::switch_parameter(x, 1);
-    one_order(Order::Out(p.value == 1), p.code)
+    Ok(Order::Fld(parameters::switch_parameter(x, 1)? == 1))
 }
 
-#[tactic(auto, unfolding(crate::specs::Words::asked_by))]
-fn out_all(x: &[u8]) -> Asks
-    ensures { result ≡ asked_by (to_all out) x.now }
+fn ast(x: &[u8]) -> Result<Order, ErrorCode>
+    ensures { OrderRead ast (parameter_of (switch 1) x.now) result }
 {
-    let p = parameters::switch_parameter(x, 1);
-    all_order(Order::Out(p.value == 1), p.code)
+    Ok(Order::Ast(parameters::switch_parameter(x, 1)? == 1))
 }
 
-#[tactic(auto, unfolding(crate::specs::Words::asked_by))]
-fn fld_one(x: &[u8]) -> Asks
-    ensures { result ≡ asked_by (to_one fld) x.now }
+fn rmt(x: &[u8]) -> Result<Order, ErrorCode>
+    ensures { OrderRead rmt (parameter_of (switch 2) x.now) result }
 {
-    let p = parameters::switch_parameter(x, 1);
-    one_order(Order::Fld(p.value == 1), p.code)
+    Ok(Order::Rmt(parameters::switch_parameter(x, 2)?))
 }
 
-#[tactic(auto, unfolding(crate::specs::Words::asked_by))]
-fn ast_one(x: &[u8]) -> Asks
-    ensures { result ≡ asked_by (to_one ast) x.now }
+fn fena(x: &[u8]) -> Result<Order, ErrorCode>
+    ensures { OrderRead fena (parameter_of hex x.now) result }
 {
-    let p = parameters::switch_parameter(x, 1);
-    one_order(Order::Ast(p.value == 1), p.code)
+    Ok(Order::Fena(parameters::hex_parameter(x)?))
 }
 
-#[tactic(auto, unfolding(crate::specs::Words::asked_by))]
-fn rmt_one(x: &[u8]) -> Asks
-    ensures { result ≡ asked_by (to_one rmt) x.now }
+fn sena(x: &[u8]) -> Result<Order, ErrorCode>
+    ensures { OrderRead sena (parameter_of hex x.now) result }
 {
-    let p = parameters::switch_parameter(x, 2);
-    one_order(Order::Rmt(p.value as u8), p.code)
+    Ok(Order::Sena(parameters::hex_parameter(x)?))
 }
 
-// The byte of an enable register: SENA's if it is that of the status bits, otherwise FENA's.
-#[tactic(auto, unfolding(crate::specs::Words::asked_by))]
-fn enable_one(status: bool, x: &[u8]) -> Asks
-    ensures { result ≡ asked_by (to_one (pick status sena fena)) x.now }
+// An order whose word takes no parameter.
+fn bare(order: Order, x: &[u8]) -> Result<Order, ErrorCode>
+    ensures { BareRead order (parameter_of bare x.now) result }
 {
-    let p = parameters::hex_parameter(x);
-    let byte = p.value as u8;
-    if status {
-        one_order(Order::Sena(byte), p.code)
-    } else {
-        one_order(Order::Fena(byte), p.code)
-    }
-}
-
-fn bare_one(o: Order, x: &[u8]) -> Asks
-    ensures { result ≡ one_order o (parameter_of bare x.now).code }
-{
-    let p = parameters::bare_parameter(x);
-    one_order(o, p.code)
-}
-
-fn bare_all(o: Order, x: &[u8]) -> Asks
-    ensures { result ≡ all_order o (parameter_of bare x.now).code }
-{
-    let p = parameters::bare_parameter(x);
-    all_order(o, p.code)
+    parameters::bare_parameter(x)?;
+    Ok(order)
 }
 
 #[tactic(auto, unfolding(crate::specs::Words::asked_by))]
-fn query_one(q: Query, x: &[u8]) -> Asks
-    ensures { result ≡ asked_by (of_one q) x.now }
+fn query(q: Query, x: &[u8]) -> Asks
+    ensures { asks_told result ≡ asked_by (of_one q) x.now }
 {
-    let p = parameters::bare_parameter(x);
-    if p.code == 0 {
-        Asks::One(Act::Ask(q))
-    } else {
-        Asks::Error(p.code)
+    match parameters::bare_parameter(x) {
+        Ok(()) => Asks::One(Act::Ask(q)),
+        Err(code) => Asks::Error(code),
     }
 }
 
 #[tactic(auto, unfolding(crate::specs::Words::asked_by))]
-fn select_one(x: &[u8]) -> Asks
-    ensures { result ≡ asked_by selecting x.now }
+fn select(x: &[u8]) -> Asks
+    ensures { asks_told result ≡ asked_by selecting x.now }
 {
-    let p = parameters::address_parameter(x);
-    if p.code == 0 {
-        Asks::Select(p.value as u8)
-    } else {
-        Asks::BadSelect(p.code)
+    match parameters::address_parameter(x) {
+        Ok(address) => Asks::Select(address),
+        Err(code) => Asks::BadSelect(code),
     }
 }
 
@@ -230,56 +189,58 @@ const GOUT: u64 = 0x1_47_4f_55_54;
 
 const GRST: u64 = 0x1_47_52_53_54;
 
-// What a line asks with the word of this number and this parameter: one arm for each order and query.
+// What a line asks with the word of this number and this parameter: one match with an arm for each order and query, as
+// docs/TRACE.md has it.
 fn asks_of_word(word: u64, x: &[u8]) -> Asks
-    ensures { result ≡ asked_by (find_number unknown_word commands word) x.now }
+    ensures { asks_told result ≡ asked_by (find_number unknown_word commands word) x.now }
 {
     match word {
-        PV => set_one(Target::Pv, 4, x),
-        PC => set_one(Target::Pc, 3, x),
-        OVP => set_one(Target::Ovp, 4, x),
-        OVM => bare_one(Order::Ovm, x),
-        UVL => set_one(Target::Uvl, 4, x),
-        OUT => out_one(x),
-        FLD => fld_one(x),
-        AST => ast_one(x),
-        RMT => rmt_one(x),
-        FENA => enable_one(false, x),
-        SENA => enable_one(true, x),
-        CLS => bare_one(Order::Cls, x),
-        RST => bare_one(Order::Rst, x),
-        PV_ASKED => query_one(Query::Pv, x),
-        PC_ASKED => query_one(Query::Pc, x),
-        OVP_ASKED => query_one(Query::Ovp, x),
-        UVL_ASKED => query_one(Query::Uvl, x),
-        MV_ASKED => query_one(Query::Mv, x),
-        MC_ASKED => query_one(Query::Mc, x),
-        OUT_ASKED => query_one(Query::Out, x),
-        FLD_ASKED => query_one(Query::Fld, x),
-        AST_ASKED => query_one(Query::Ast, x),
-        RMT_ASKED => query_one(Query::Rmt, x),
-        MODE_ASKED => query_one(Query::Mode, x),
-        FLT_ASKED => query_one(Query::Flt, x),
-        FENA_ASKED => query_one(Query::Fena, x),
-        FEVE_ASKED => query_one(Query::Feve, x),
-        STT_ASKED => query_one(Query::Stt, x),
-        STAT_ASKED => query_one(Query::Stat, x),
-        SENA_ASKED => query_one(Query::Sena, x),
-        SEVE_ASKED => query_one(Query::Seve, x),
-        ADR => select_one(x),
-        GPV => set_all(Target::Pv, 4, x),
-        GPC => set_all(Target::Pc, 3, x),
-        GOUT => out_all(x),
-        GRST => bare_all(Order::Rst, x),
-        _ => Asks::Error(C01),
+        PV => to_one(set(Target::Pv, 4, x)),
+        PC => to_one(set(Target::Pc, 3, x)),
+        OVP => to_one(set(Target::Ovp, 4, x)),
+        OVM => to_one(bare(Order::Ovm, x)),
+        UVL => to_one(set(Target::Uvl, 4, x)),
+        OUT => to_one(out(x)),
+        FLD => to_one(fld(x)),
+        AST => to_one(ast(x)),
+        RMT => to_one(rmt(x)),
+        FENA => to_one(fena(x)),
+        SENA => to_one(sena(x)),
+        CLS => to_one(bare(Order::Cls, x)),
+        RST => to_one(bare(Order::Rst, x)),
+        PV_ASKED => query(Query::Pv, x),
+        PC_ASKED => query(Query::Pc, x),
+        OVP_ASKED => query(Query::Ovp, x),
+        UVL_ASKED => query(Query::Uvl, x),
+        MV_ASKED => query(Query::Mv, x),
+        MC_ASKED => query(Query::Mc, x),
+        OUT_ASKED => query(Query::Out, x),
+        FLD_ASKED => query(Query::Fld, x),
+        AST_ASKED => query(Query::Ast, x),
+        RMT_ASKED => query(Query::Rmt, x),
+        MODE_ASKED => query(Query::Mode, x),
+        FLT_ASKED => query(Query::Flt, x),
+        FENA_ASKED => query(Query::Fena, x),
+        FEVE_ASKED => query(Query::Feve, x),
+        STT_ASKED => query(Query::Stt, x),
+        STAT_ASKED => query(Query::Stat, x),
+        SENA_ASKED => query(Query::Sena, x),
+        SEVE_ASKED => query(Query::Seve, x),
+        ADR => select(x),
+        GPV => to_all(set(Target::Pv, 4, x)),
+        GPC => to_all(set(Target::Pc, 3, x)),
+        GOUT => to_all(out(x)),
+        GRST => to_all(bare(Order::Rst, x)),
+        _ => Asks::Error(ErrorCode::C01),
     }
 }
 
 // What a line without its checksum asks.
+#[tactic(auto, unfolding(crate::specs::Asked::asks_of))]
 pub fn asks_of(t: &[u8]) -> Asks
-    ensures { result ≡ asks_of t.now }
+    ensures { asks_told result ≡ asks_of t.now }
 {
-    if t.len() == 0 {
+    if t.is_empty() {
         return Asks::One(Act::Nothing);
     }
     let p = figures::first_at(t, b' ');

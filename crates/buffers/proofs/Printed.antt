@@ -5,7 +5,7 @@ use mathlib.Core.Bool.{Bool, true, false}
 use mathlib.Core.List.{List, [], ◌∷◌, ◌++◌, map}
 use native.Mathlib.Omega.{arith}
 use lib.Dec.{ltb, eqb}
-use lib.ListN.{length}
+use lib.ListN.{length, take, drop, length-take, take-append-drop}
 use borrow.Author.Tests.{ltb-true, ltb-false, eqb-true}
 use Rattle.base.specs.Choice.{pick}
 use Rattle.base.specs.Lists.{each_to}
@@ -18,6 +18,18 @@ each_there f k n l e = by_test (ltb n (length l)) refl
     by_test : (t : Bool) → ltb n (length l) ≡ t → each_to f k l ≡ each_to f n l
     by_test true h = let same : k ≡ n = omega (arith, e, ltb-true n (length l) h) in rw same refl
     by_test false h = each_to_all f k l 0 (omega (arith, e, ltb-false n (length l) h)) ∙ sym (each_to_all f n l 0 (ltb-false n (length l) h))
+
+-- the bytes xs at the start are printed apart from those after them, which stay
+each_part : (f : ℕ → ℕ) (xs ys : List ℕ) → each_to (λ i b. f b) (length xs) xs ++ ys ≡ each_to (λ i b. f b) (length xs) (xs ++ ys)
+each_part f [] ys = refl
+each_part f (x ∷ xs) ys = ap (λ (l : List ℕ). f x ∷ l) (each_part f xs ys)
+
+-- the same of the bytes before index end, where the code keeps end inside the buffer
+pub each_before : (f : ℕ → ℕ) (n end : ℕ) (l : List ℕ) → end ≡ min n (length l)
+    → each_to (λ i b. f b) (length (take end l)) (take end l) ++ drop end l ≡ each_to (λ i b. f b) n l
+each_before f n end l e =
+    each_part f (take end l) (drop end l)
+    ∙ rw take-append-drop (each_there (λ i b. f b) (length (take end l)) n l (omega (arith, length-take end l)))
 
 -- if lines end with CR, nothing changes
 pub printed_cr : (b : ℕ) → printed 13 b ≡ b

@@ -7,7 +7,7 @@ ghost use Rattle.base.specs.Lists.{each_to};
 ghost use Rattle.buffers.specs.Printed.{printed};
 ghost use Rattle.buffers.specs.Kept.{Kept};
 
-const CR: u8 = 13;
+const CR: u8 = b'\r';
 
 fn printed_byte(ending: u8, b: u8) -> u8
     ensures { result ≡ printed ending b }
@@ -22,11 +22,9 @@ pub fn end_lines(out: &mut [u8], n: usize, ending: u8)
     if ending == CR {
         return;
     }
-    let end = base::least(n, out.len());
-    let mut i = 0;
-    while i < end {
-        out[i] = printed_byte(ending, out[i]);
-        i += 1;
+    let end = n.min(out.len());
+    for b in &mut out[..end] {
+        *b = printed_byte(ending, *b);
     }
 }
 
@@ -34,13 +32,8 @@ pub fn end_lines(out: &mut [u8], n: usize, ending: u8)
 pub fn keep_rest(room: &mut [u8], used: usize, n: usize) -> usize
     ensures { Kept room.old used n result room.new }
 {
-    let end = base::least(n, room.len());
-    let mut from = used;
-    let mut i = 0;
-    while from < end {
-        room[i] = room[from];
-        i += 1;
-        from += 1;
-    }
-    i
+    let end = n.min(room.len());
+    let start = used.min(end);
+    room.copy_within(start..end, 0);
+    end - start
 }

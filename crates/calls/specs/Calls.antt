@@ -1,17 +1,31 @@
 -- WHAT A CALL DOES: all that it returns, the rack and every byte of the reply buffer, for any rack, bytes and buffer.
-use Rattle.std.specs.Prelude.{ℕ, ◌≡◌, List, ◌++◌, length, drop}
+use Rattle.std.specs.Prelude.{ℕ, ◌≡◌, Result, Ok, Err, List, ◌++◌, length, drop}
 use Rattle.wire.specs.Wire.{Call}
 use Rattle.wire.specs.Rack.{call_of}
 use Rattle.wire.specs.Rack as wire
 use Rattle.supply.specs.declared.Supply.{Supply}
 use Rattle.plain.specs.Plain.{plain_supply}
 use Rattle.slots.specs.declared.Rack.{Rack}
-use Rattle.calls.specs.declared.Answer.{Answer}
 use Rattle.slots.specs.View.{view_of, Able}
+use Rattle.field.specs.declared.Refusal.{Refusal}
+use Rattle.field.specs.Refusals.{refusal_number}
+use Rattle.calls.specs.declared.Called.{Called}
+
+-- an answer as the papers number it: the number of the refusal, or 0; the rack; the bytes used; the length of the reply
+pub record Answer : Type 0 where
+  pub code : ℕ
+  pub rack : Rack
+  pub used : ℕ
+  pub length : ℕ
 
 -- a refusal: its number, the very same rack, nothing used, no reply
 abbrev pub refusal : Rack → ℕ → Answer
 refusal r n = record { code = n; rack = r; used = 0; length = 0 }
+
+-- the answer that a call on the rack r gives
+abbrev pub answer_told : Rack → Result Called Refusal → Answer
+answer_told r (Ok c) = record { code = 0; rack = c.rack; used = c.used; length = c.length }
+answer_told r (Err e) = refusal r (refusal_number e)
 
 -- an accepted field: code 0, the rack q, the bytes used, and the reply t at the start of the buffer with the rest
 -- untouched

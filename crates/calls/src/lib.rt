@@ -3,44 +3,36 @@
 // messages after them.
 #![tactic(auto)]
 
-ghost use Rattle.calls.specs.Calls.{CallDoes};
+ghost use Rattle.calls.specs.Calls.{answer_told, CallDoes};
 
+use field::Refusal;
 use slots::Rack;
 
 // The byte that ends each reply and each message.
 const CR: u8 = 13;
 
-// What a call returns: code 0, the rack after the field, the bytes used and the length of the reply; or the number of a
-// refusal and the same rack.
+// What an accepted field leaves: the rack after it, the bytes used and the length of the reply.
 #[derive(Clone, Copy)]
-pub struct Answer {
-    pub code: u8,
+pub struct Called {
     pub rack: Rack,
     pub used: usize,
     pub length: usize,
 }
 
 // One call: works the first field of the lent bytes and writes its replies and messages to the start of the buffer.
-pub fn call(r: Rack, bytes: &[u8], reply: &mut [u8]) -> Answer
-    ensures { CallDoes r bytes.now reply.old result reply.new }
+pub fn call(r: Rack, bytes: &[u8], reply: &mut [u8]) -> Result<Called, Refusal>
+    ensures { CallDoes r bytes.now reply.old (answer_told r result) reply.new }
 {
     if reply.len() < 512 {
-        return Answer {
-            code: 1,
-            rack: r,
-            used: 0,
-            length: 0,
-        };
+        return Err(Refusal::ShortBuffer);
     }
     let worked = engine::work(r, bytes, reply, 0, CR);
-    let rack = worked.rack;
-    let code = worked.code;
-    let used = worked.used;
-    let length = worked.next;
-    Answer {
-        code,
-        rack,
-        used,
-        length,
+    match worked.refusal {
+        Some(refusal) => Err(refusal),
+        None => Ok(Called {
+            rack: worked.rack,
+            used: worked.used,
+            length: worked.next,
+        }),
     }
 }

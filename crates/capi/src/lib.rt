@@ -24,10 +24,17 @@ pub struct Done {
 }
 
 // The fresh rack of a fitting list; or code 8 and a rack of empty slots.
+#[tactic(auto, using(fitting::proofs::Fits::refused_fit))]
 pub fn pu_fit(list: &[u8]) -> Fitted
     ensures { FitDoes list.now result }
 {
-    fitting::fit(list)
+    match fitting::fit(list) {
+        Ok(rack) => Fitted { code: 0, rack },
+        Err(refusal) => Fitted {
+            code: u8::from(refusal),
+            rack: fitting::empty_rack(),
+        },
+    }
 }
 
 // One call: works the first field of the lent bytes on the lent rack. The contract is that of `call`, so a list of
@@ -37,12 +44,20 @@ pub fn pu_call(rack: &mut Rack, bytes: &[u8], reply: &mut [u8]) -> Done
     ensures { CallDoes rack.old bytes.now reply.old
         (answer_with result rack.new) reply.new }
 {
-    let a = calls::call(*rack, bytes, reply);
-    *rack = a.rack;
-    Done {
-        code: a.code,
-        used: a.used,
-        length: a.length,
+    match calls::call(*rack, bytes, reply) {
+        Ok(called) => {
+            *rack = called.rack;
+            Done {
+                code: 0,
+                used: called.used,
+                length: called.length,
+            }
+        }
+        Err(refusal) => Done {
+            code: u8::from(refusal),
+            used: 0,
+            length: 0,
+        },
     }
 }
 

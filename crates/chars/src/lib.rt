@@ -13,23 +13,32 @@ pub struct Advance {
     pub next: usize,
 }
 
+const LINE_FEED: u8 = 10;
+
+const CARRIAGE_RETURN: u8 = 13;
+
 // Takes the characters of a line up to its CR or the end of the bytes.
 pub fn take_chars(kept: &mut [u8; 64], n: usize, was: bool, p: &[u8]) -> Advance
     ensures { CharsDo kept.old n was p.now kept.new result }
 {
     let mut count = n;
     let mut spoiled = was;
-    let mut i = 0;
-    while i < p.len() && p[i] != 13 {
-        let c = serial::take_char(kept, count, spoiled, p[i]);
-        count = c.count;
-        spoiled = c.spoiled;
-        i += 1;
+    for (i, b) in p.iter().enumerate() {
+        if *b == CARRIAGE_RETURN {
+            return Advance {
+                count,
+                spoiled,
+                next: i,
+            };
+        }
+        let taken = serial::take_char(kept, count, spoiled, *b);
+        count = taken.count;
+        spoiled = taken.spoiled;
     }
     Advance {
         count,
         spoiled,
-        next: i,
+        next: p.len(),
     }
 }
 
@@ -37,8 +46,8 @@ pub fn take_chars(kept: &mut [u8; 64], n: usize, was: bool, p: &[u8]) -> Advance
 pub fn past_feed(p: &[u8], i: usize) -> usize
     ensures { FeedDoes p.now i result }
 {
-    if p.len() <= i {
-        return i;
+    match p.get(i) {
+        Some(&LINE_FEED) => i + 1,
+        _ => i,
     }
-    if p[i] == 10 { i + 1 } else { i }
 }

@@ -2,9 +2,8 @@
 use Rattle.std.specs.Prelude.{ℕ, ◌-◌, List, Bool, true, false, ◌&&◌, leb, eqb, length, get_or, take, drop}
 use Rattle.base.specs.Choice.{pick}
 use Rattle.hexadecimal.specs.Hex.{read_hex, checksum}
-use Rattle.asks.specs.declared.Asks.{Asks}
-use Rattle.asks.specs.declared.Asks.TheVariants.{Error}
-use Rattle.command.specs.declared.Heard.{Heard}
+use Rattle.asks.specs.Asks.{Asks}
+use Rattle.asks.specs.Asks.{Error}
 use Rattle.parameters.specs.Parameters.{c01, c04}
 use Rattle.asks.specs.Asked.{asks_of}
 
@@ -21,6 +20,11 @@ unfoldable pub right_checksum : List ℕ → Bool
 right_checksum t =
     (read_hex (drop (length t - 2) t)).good
     && eqb (read_hex (drop (length t - 2) t)).value (checksum (before_checksum t))
+
+-- what a line asks, and whether it had a right checksum
+pub record Heard : Type 0 where
+  pub asks : Asks
+  pub checksummed : Bool
 
 abbrev pub heard_as : Asks → Bool → Heard
 heard_as a t = record { asks = a; checksummed = t }

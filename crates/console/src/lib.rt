@@ -38,7 +38,8 @@ pub fn buffer() -> [u8; 8192]
     [0; 8192]
 }
 
-// Whether further bytes may mend a refusal: the field is incomplete, and the rest may still come.
+// Whether further bytes may mend a refusal: the field is incomplete, and the rest may still come. It answers for any
+// number, and a type of refusals would ask more of its callers.
 pub fn waits(code: u8) -> bool
     ensures { result ≡ mendable code }
 {
@@ -260,6 +261,7 @@ fn refusal_line(code: u8) -> [u8; 10]
     ]
 }
 
+// Reports a refusal by its number, whichever that is.
 pub fn say_refusal(rt: &HostRuntime, code: u8) {
     write_out(rt, &refusal_line(code));
 }

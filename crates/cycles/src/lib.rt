@@ -17,6 +17,7 @@ const LF: u8 = 10;
 
 // The outcome of a cycle: the rack after it, the bytes used, how many bytes are to be written, the number of the
 // refusal that ended it (0 if the buffer was full), and whether to read on because further bytes may mend the refusal.
+// The number stays one, as what the programs do with it (`goes_on`, `told_at_end`, `say_refusal`) takes any number.
 #[derive(Clone, Copy)]
 pub struct CycleOutcome {
     pub rack: Rack,
@@ -32,10 +33,9 @@ pub fn cycle(r: Rack, s: &[u8], out: &mut [u8]) -> CycleOutcome
     ensures { CycleDoes r s.now out.old result out.new }
 {
     let w = engine::work(r, s, out, FULL, LF);
-    let rack = w.rack;
-    let code = w.code;
+    let code = field::refusal_code(w.refusal);
     CycleOutcome {
-        rack,
+        rack: w.rack,
         used: w.used,
         length: w.next,
         code,

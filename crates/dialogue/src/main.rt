@@ -10,12 +10,13 @@
 // how many replies were expected and how many items were wrong.
 #![tactic(auto)]
 
-ghost use Rattle.std.specs.Prelude.{◌<◌, ◌≤◌, length};
+ghost use Rattle.std.specs.Prelude.{◌≡◌, ◌<◌, length, MatchOption};
 
 use asks::Asks;
+use command::Heard;
 use reply::Obeyed;
 use std::io;
-use supply::{Act, Supply};
+use supply::{Act, ErrorCode, Supply};
 
 // More bytes than the input has. The rest of a longer input would not be read, and the count would show it.
 const INPUT: usize = 262_144;
@@ -35,8 +36,9 @@ const MODELS: u64 = 12;
 // How many wrong items are named.
 const NAMED: u64 = 10;
 
-// How far the talk has come: the supply with its model, the length of the reply to the last line and whether it is
-// still to be compared, and how many items, replies and wrong items there were so far.
+// How far the talk has come: the supply with its model, the length of the last reply and whether one is still to be
+// compared (a line that is too long leaves the length as it was), and how many items, replies and wrong items there were
+// so far.
 #[derive(Clone, Copy)]
 struct Talk {
     model: u8,
@@ -48,26 +50,16 @@ struct Talk {
     wrong: u64,
 }
 
-// One byte of a text, and the index after its notation.
-#[derive(Clone, Copy)]
-struct Character {
-    byte: u8,
-    next: usize,
-}
-
-fn one_more(n: u64) -> u64 {
-    if n < u64::MAX { n + 1 } else { n }
-}
-
 // Counts an item as wrong and names its line, unless enough of them are named.
 fn wrong_item(rt: &HostRuntime, t: Talk) -> Talk {
     if t.wrong < NAMED {
         let line = t.items;
         let _ = println!(rt; "wrong: line {line}");
     }
-    let mut r = t;
-    r.wrong = one_more(t.wrong);
-    r
+    Talk {
+        wrong: t.wrong.saturating_add(1),
+        ..t
+    }
 }
 
 // If a reply still waits to be compared, the input lacks it, and the item is wrong.
@@ -75,69 +67,53 @@ fn nothing_waits(rt: &HostRuntime, t: Talk) -> Talk {
     if t.waits { wrong_item(rt, t) } else { t }
 }
 
-// The character that begins at an index: \xHH, or a byte as it is.
-fn character_at(s: &[u8], i: usize) -> Character
-    requires { i < length s.now }
-    ensures { (i < result.next) × (result.next ≤ length s.now) }
+// The byte that the first character of a text stands for, and the text after it: \xHH, or a byte as it is.
+fn first_character(text: &[u8]) -> Option<(u8, &[u8])>
+    ensures { MatchOption result (length text.now ≡ 0) (λ c. length c.1.now < length text.now) }
 {
-    let b = s[i];
-    if b != b'\\' {
-        return Character {
-            byte: b,
-            next: i + 1,
-        };
-    }
-    if s.len() - i < 4 {
-        return Character {
-            byte: b,
-            next: i + 1,
-        };
-    }
-    let n = hexadecimal::read_hex(&s[i + 2..i + 4]);
-    Character {
-        byte: (n.value % 256) as u8,
-        next: i + 4,
+    match text {
+        [b'\\', _, high, low, rest @ ..] => {
+            Some((hexadecimal::read_hex(&[*high, *low]).unwrap_or(0), rest))
+        }
+        [byte, rest @ ..] => Some((*byte, rest)),
+        [] => None,
     }
 }
 
 // Writes the bytes that a text stands for, and returns the index after them.
 fn put_bytes(buf: &mut [u8], text: &[u8]) -> usize {
     let mut at = 0;
-    let mut i = 0;
-    while i < text.len() {
-        let c = character_at(text, i);
-        at = base::put_byte(buf, at, c.byte);
-        i = c.next;
+    let mut rest = text;
+    while let Some((byte, after)) = first_character(rest) {
+        at = base::put_byte(buf, at, byte);
+        rest = after;
     }
     at
 }
 
 // To a supply, a global is just another order, to which it does not reply.
 fn obey_silently(model: u8, s: Supply, a: Act) -> Obeyed {
-    let done = acts::perform(model, s, a);
-    let after = done.supply;
     Obeyed {
-        supply: after,
+        supply: acts::perform(model, s, a).unwrap_or(s),
         next: 0,
     }
 }
 
 // OK or an error code, from a supply that does nothing.
-fn reply_code(s: Supply, code: u8, checksummed: bool, buf: &mut [u8]) -> Obeyed {
-    let next = texts::put_code_reply(buf, 0, code, checksummed);
-    Obeyed { supply: s, next }
+fn reply_code(s: Supply, told: Result<(), ErrorCode>, checksummed: bool, buf: &mut [u8]) -> Obeyed {
+    Obeyed {
+        supply: s,
+        next: texts::put_told_reply(buf, 0, told, checksummed),
+    }
 }
 
 // The outcome of a line at its CR. The reply to an ADR comes from here; an ADR changes nothing.
 fn hear_line(model: u8, s: Supply, line: &[u8], spoiled: bool, buf: &mut [u8]) -> Obeyed {
-    let heard = command::read_line(line, spoiled);
-    let checksummed = heard.checksummed;
-    let asks = heard.asks;
+    let Heard { asks, checksummed } = command::read_line(line, spoiled);
     match asks {
         Asks::One(a) => reply::obey(model, s, a, checksummed, buf, 0),
-        Asks::Select(_) => reply_code(s, 0, checksummed, buf),
-        Asks::BadSelect(code) => reply_code(s, code, checksummed, buf),
-        Asks::Error(code) => reply_code(s, code, checksummed, buf),
+        Asks::Select(_) => reply_code(s, Ok(()), checksummed, buf),
+        Asks::BadSelect(code) | Asks::Error(code) => reply_code(s, Err(code), checksummed, buf),
         Asks::Everyone(o) => obey_silently(model, s, Act::Obey(o)),
         Asks::Nobody => Obeyed { supply: s, next: 0 },
     }
@@ -145,28 +121,28 @@ fn hear_line(model: u8, s: Supply, line: &[u8], spoiled: bool, buf: &mut [u8]) -
 
 // Whether the first bytes of a buffer are a text and CR; if the text is empty, whether there is no reply.
 fn is_reply(buf: &[u8], length: usize, text: &[u8]) -> bool {
-    let n = text.len();
-    if n == 0 {
-        return length == 0;
+    let said = base::part_to(buf, length);
+    if text.is_empty() {
+        return said.is_empty();
     }
-    if buf.len() <= n {
-        return false;
-    }
-    check::same(base::part_to(buf, n), text) & (buf[n] == 13) & (length == n + 1)
+    matches!(said, [reply @ .., 13] if check::same(reply, text))
 }
 
 fn take_model(rt: &HostRuntime, t: Talk, text: &[u8]) -> Talk {
-    let n = figures::read_number(text, 0);
-    let mut r = nothing_waits(rt, t);
-    r.waits = false;
-    if n.good & (n.value < MODELS) {
-        let model = (n.value % 256) as u8;
-        let fresh = supply::fresh_supply(model);
-        r.model = model;
-        r.supply = fresh;
-        r
-    } else {
-        wrong_item(rt, r)
+    let t = Talk {
+        waits: false,
+        ..nothing_waits(rt, t)
+    };
+    match figures::read_number(text, 0) {
+        Some(n) if n < MODELS => {
+            let model = n as u8;
+            Talk {
+                model,
+                supply: Supply::fresh(model),
+                ..t
+            }
+        }
+        _ => wrong_item(rt, t),
     }
 }
 
@@ -179,27 +155,37 @@ fn take_line(
 ) -> Talk {
     let mut line = [0u8; LINE_ROOM];
     let n = put_bytes(&mut line, text);
-    let mut r = nothing_waits(rt, t);
-    r.waits = true;
+    let t = Talk {
+        waits: true,
+        ..nothing_waits(rt, t)
+    };
     if LINE < n {
-        return wrong_item(rt, r);
+        return wrong_item(rt, t);
     }
-    let s = t.supply;
-    let done = hear_line(t.model, s, base::part_to(&line, n), spoiled, said);
-    let after = done.supply;
-    r.supply = after;
-    r.length = done.next;
-    r
+    let Obeyed { supply, next } = hear_line(
+        t.model,
+        t.supply,
+        base::part_to(&line, n),
+        spoiled,
+        said,
+    );
+    Talk {
+        supply,
+        length: next,
+        ..t
+    }
 }
 
 fn take_reply(rt: &HostRuntime, said: &[u8; REPLY_ROOM], t: Talk, text: &[u8]) -> Talk {
-    let mut r = t;
-    r.waits = false;
-    r.replies = one_more(t.replies);
-    if t.waits & is_reply(said, t.length, text) {
-        r
+    let after = Talk {
+        waits: false,
+        replies: t.replies.saturating_add(1),
+        ..t
+    };
+    if t.waits && is_reply(said, t.length, text) {
+        after
     } else {
-        wrong_item(rt, r)
+        wrong_item(rt, after)
     }
 }
 
@@ -208,25 +194,27 @@ fn take_item(rt: &HostRuntime, said: &mut [u8; REPLY_ROOM], t: Talk, item: &[u8]
     let p = figures::first_at(item, b' ');
     let word = base::part_to(item, p);
     let text = figures::part_after(item, p);
-    let mut r = t;
-    r.items = one_more(t.items);
+    let t = Talk {
+        items: t.items.saturating_add(1),
+        ..t
+    };
     if check::same(word, b">") {
-        take_line(rt, said, r, text, false)
+        take_line(rt, said, t, text, false)
     } else if check::same(word, b"!") {
-        take_line(rt, said, r, text, true)
+        take_line(rt, said, t, text, true)
     } else if check::same(word, b"<") {
-        take_reply(rt, said, r, text)
+        take_reply(rt, said, t, text)
     } else if check::same(word, b"model") {
-        take_model(rt, r, text)
+        take_model(rt, t, text)
     } else {
-        wrong_item(rt, r)
+        wrong_item(rt, t)
     }
 }
 
 fn first_talk() -> Talk {
     Talk {
         model: 0,
-        supply: supply::fresh_supply(0),
+        supply: Supply::fresh(0),
         length: 0,
         waits: false,
         items: 0,
@@ -239,11 +227,11 @@ fn take_items(rt: &HostRuntime, s: &[u8]) -> Talk {
     let mut said = [0u8; REPLY_ROOM];
     let mut t = first_talk();
     let mut rest = s;
-    while 0 < rest.len() {
+    // The items of split would end with an empty one, after the end of the last line.
+    while !rest.is_empty() {
         let p = figures::first_at(rest, b'\n');
         t = take_item(rt, &mut said, t, base::part_to(rest, p));
-        let after = figures::part_after(rest, p);
-        rest = after;
+        rest = figures::part_after(rest, p);
     }
     nothing_waits(rt, t)
 }

@@ -35,7 +35,6 @@ use Rattle.messages.specs.Messages.{slot_at, sends_by, unchanged, found_at}
 use Rattle.slots.specs.View.{view_of, rack_is, due}
 use Rattle.addressed.specs.Pieces.{After, Leaves, slots_after, refused_as, items_at, PieceRefused, PieceTaken, PieceDoes}
 use Rattle.addressed.specs.Addressed.{sample_as}
-use Rattle.engine.specs.declared.Worked.{Worked}
 use Rattle.engine.specs.Engine.{Ran, ran, after_field, fields_from, fields_on, full_at}
 use Rattle.addressed.proofs.Addressed.{bad_header, sample_done}
 use Rattle.engine.proofs.Spent.{spent}
@@ -313,11 +312,6 @@ pub record Unmoved (ss₀ : List Supply) (l₀ : Line) (b : List ℕ) (n : ℕ) 
 pub unmoved_start : (ss : List Supply) (l : Line) (b : List ℕ) (n : ℕ) → Unmoved ss l b n ss l 0 0 0 0 true b
 unmoved_start ss l b n = record { slots_are = refl; line_is = refl; used_is = refl; next_is = refl; left_is = refl; buffer_is = refl; code_is = λ g. absurd (true≢false g) }
 
--- the result if the first field is refused, from what each part of it is
-pub refused_answer : (ss ss₀ : List Supply) (l l₀ : Line) (u u₀ : Setup) (used next code n : ℕ) → ss ≡ ss₀ → l ≡ l₀ → u ≡ u₀ → used ≡ 0 → next ≡ 0 → code ≡ n
-    → ◌≡◌ {A = Worked} (record { rack = rack_is ss l u; used = used; next = next; code = code }) (record { rack = rack_is ss₀ l₀ u₀; used = 0; next = 0; code = n })
-refused_answer ss ss₀ l l₀ u u₀ used next code n slots line setup none unsaid refused = rw (slots, line, setup, none, unsaid, refused) refl
-
 -- what was said stands at the start of the buffer, printed
 pub printed_said : (f : ℕ → ℕ) (b said b₁ : List ℕ) (next : ℕ) → Put b 0 said next b₁ → next ≡ length said → each_to (λ i x. f x) next b₁ ≡ map f said ++ drop (length said) b
 printed_said f b said b₁ next put e =
@@ -443,6 +437,18 @@ module _ {u : Setup} {s b : List ℕ} {full : ℕ} {ss₀ : List Supply} {l₀ :
       inv_next on k z low p d reach (set ss k p.supply) (rw one refl) (length-set ss k p.supply ∙ f.slots) w (put_length rang ∙ f.same) f.low f.registers
       (λ since begins noted. rw (begins new, none) (rung_one ss k p.supply found kept (omega (arith, low, f.slots)) rings))
 
+  -- the next field is refused: nothing changes, and the loop ends
+  pub inv_refused : (on : going ≡ true) (k : ℕ) (z : Supply) {a : ℕ} (low : k < 31) (l' : Line) (n : ℕ) → (n ≡ 0 → ⊥) → {b₂ : List ℕ} → PieceDoes u l (get_or ss k z) a rest left (refused_as l' (get_or ss k z) next n) b₁ next b₂
+      → (fitted u a ≡ true → k ≡ a) → length l'.kept ≡ 64 → length b₂ ≡ length b → {found' : Found} {kept' : List ℕ} → found'.slot < 31 → length kept' ≡ 62
+      → Inv u s b full ss₀ l₀ ss l' used next left n false b₂ found' kept'
+  inv_refused on k z {a} low l' n some {b₂} d reach w m {found'} {kept'} low' r =
+      let new : left ≡ 0 = elim d [ inl e ↦ refused_new u rest left n e.reads | inr e ↦ absurd (some e.code_is) ] in
+      let same : set ss k (get_or ss k z) ≡ ss = set_same ss k (get_or ss k z) (fresh 255) (get_d_any ss k z (fresh 255) (omega (arith, low, f.slots))) in
+      let i =
+      inv_next on k z low (refused_as l' (get_or ss k z) next n) d reach ss (sym same) f.slots w {next' = next} {b₃ = b₂} {found' = found'} {kept' = kept'} m low' r
+      (λ since begins noted. rw (begins new) (record { said = []; put = put_none b₂ next; ends = λ e. sym (unsent ss); quiet = λ e. refl; noted = λ e. absurd (omega (arith, e)) })) in
+      rw new (rw (add-zero, ne_eqb n 0 some) at i)
+
   module _ (on : going ≡ true) (new : left ≡ 0) where
     -- a sample comes next, for a supply that exists
     module _ (z : Supply) (is : is_sample rest ≡ true) (there : fitted u (get_or rest 3 0) ≡ true) (low : get_or rest 3 0 < 31) where
@@ -474,9 +480,7 @@ module _ {u : Setup} {s b : List ℕ} {full : ℕ} {ss₀ : List Supply} {l₀ :
       few_does = rw new (bad_header u l x rest b₁ next 0 2 (too_short rest few) (λ h. omega (arith, h)))
 
       pub inv_few : Inv u s b full ss₀ l₀ ss l used next left 2 false b₁ found kept
-      inv_few =
-          let k = inv_next on 0 (fresh 255) (omega arith) (refused_as l x next 2) few_does (λ q. refl) ss (sym (set_same ss 0 x (fresh 255) refl)) f.slots f.kept_chars {next' = next} {b₃ = b₁} {found' = found} {kept' = kept} f.same f.low f.registers (λ since begins noted. rw (begins new) (record { said = []; put = put_none b₁ next; ends = λ e. sym (unsent ss); quiet = λ e. refl; noted = λ e. absurd (omega (arith, e)) })) in
-          rw new (rw add-zero at k)
+      inv_few = inv_refused on 0 (fresh 255) (omega arith) l 2 (λ h. omega (arith, h)) few_does (λ q. refl) f.kept_chars f.same f.low f.registers
 
       pub few_less : length s - used + bit false < length s - used + bit going
       few_less = rw on (omega arith)

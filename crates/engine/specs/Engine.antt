@@ -7,6 +7,7 @@ use Rattle.wire.specs.Rack.{refused, done, call_of}
 use Rattle.wire.specs.Rack as wire
 use Rattle.supply.specs.declared.Supply.{Supply}
 use Rattle.field.specs.Fields.{read_field}
+use Rattle.field.specs.Refusals.{refusal_code}
 use Rattle.plain.specs.Plain.{plain_supply, least_reply}
 use Rattle.slots.specs.declared.Rack.{Rack}
 use Rattle.slots.specs.View.{view_of, Able}
@@ -78,7 +79,7 @@ full_at full n = not (ltb n full)
 pub record WorkDoes (r : Rack) (s b : List ℕ) (full ending : ℕ) (w : Worked) (b' : List ℕ) : Type 0 where
   pub small : Able w.rack
   pub said : List ℕ
-  pub is : ran (view_of w.rack) w.used said w.code ≡ fields_on (full_at full) (view_of r) s
+  pub is : ran (view_of w.rack) w.used said (refusal_code w.refusal) ≡ fields_on (full_at full) (view_of r) s
   pub next_is : w.next ≡ length said
   pub buffer_is : b' ≡ map (printed ending) said ++ drop (length said) b
 
@@ -86,4 +87,4 @@ pub record WorkDoes (r : Rack) (s b : List ℕ) (full ending : ℕ) (w : Worked)
 abbrev pub RefusedFirst : Rack → List ℕ → List ℕ → Worked → List ℕ → Type 0
 RefusedFirst r s b w b' =
     (n : ℕ) → read_field (fitted r.setup) s ≡ refuse n
-    → (w ≡ record { rack = r; used = 0; next = 0; code = n }) × (b' ≡ b)
+    → (w.rack ≡ r) × (w.used ≡ 0) × (w.next ≡ 0) × (refusal_code w.refusal ≡ n) × (b' ≡ b)

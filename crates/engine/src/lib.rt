@@ -7,17 +7,18 @@ ghost use Rattle.plain.specs.Plain.{least_reply};
 ghost use Rattle.slots.specs.View.{Able};
 ghost use Rattle.engine.specs.Engine.{RefusedFirst, WorkDoes};
 
+use field::Refusal;
 use serial::Line;
 use slots::Rack;
 
-// Fields worked: the rack after them, the bytes used, the index after their replies and messages, and the number of the
-// refusal of the next field, or 0.
+// Fields worked: the rack after them, the bytes used, the index after their replies and messages, and the refusal of the
+// next field, if one ended them.
 #[derive(Clone, Copy)]
 pub struct Worked {
     pub rack: Rack,
     pub used: usize,
     pub next: usize,
-    pub code: u8,
+    pub refusal: Option<Refusal>,
 }
 
 // Works fields one after another until one is refused or what they say reaches the index `full` of the buffer. It works
@@ -36,15 +37,14 @@ pub fn work(r: Rack, s: &[u8], out: &mut [u8], full: usize, ending: u8) -> Worke
     let mut used = 0;
     let mut next = 0;
     let mut left = 0;
-    let mut code = 0;
+    let mut refusal = None;
     let mut going = true;
     let mut registers = [0u8; 62];
     let mut found = messages::none_found();
     while going {
         let rest = base::part_from(s, used);
         let setup = rack.setup;
-        let model = addressed::sample_model(setup, rest, left);
-        if model != 255 {
+        if let Some(model) = addressed::sample_model(setup, rest, left) {
             let k = field::byte_at(rest, 3) as usize;
             let before = rack.slots[k];
             let supply = addressed::take_sample(model, before, rest);
@@ -56,7 +56,7 @@ pub fn work(r: Rack, s: &[u8], out: &mut [u8], full: usize, ending: u8) -> Worke
             let k = addressed::slot_or_first(setup, selected);
             let slot = found.slot;
             found = messages::found_by(found, left, rack.slots[slot], k, rack.slots[k]);
-            let p = pieces::take_serial(
+            let piece = pieces::take_serial(
                 setup,
                 &mut kept,
                 count,
@@ -68,45 +68,53 @@ pub fn work(r: Rack, s: &[u8], out: &mut [u8], full: usize, ending: u8) -> Worke
                 out,
                 next,
             );
-            if messages::leaves(found, k, p.all) {
-                messages::keep_registers(&mut registers, rack.slots, found);
-                found.many = true;
+            match piece {
+                Ok(p) => {
+                    if messages::leaves(found, k, p.order.is_some()) {
+                        messages::keep_registers(&mut registers, rack.slots, found);
+                        found.many = true;
+                    }
+                    count = p.count;
+                    spoiled = p.spoiled;
+                    selected = p.selected;
+                    left = p.left;
+                    used += p.used;
+                    match p.order {
+                        Some(order) => rack.slots = globals::order_all(setup, rack.slots, order),
+                        None => rack.slots[k] = p.supply,
+                    }
+                    next = p.next;
+                    if found.many {
+                        next = messages::ring_all(out, next, &registers, rack.slots, left);
+                    } else {
+                        let only = found.slot;
+                        next = messages::ring_one(out, next, found, rack.slots[only], left);
+                    }
+                    going = (0 < left) | (next < full);
+                }
+                Err(refused) => {
+                    refusal = Some(refused);
+                    going = false;
+                }
             }
-            count = p.count;
-            spoiled = p.spoiled;
-            selected = p.selected;
-            left = p.left;
-            code = p.code;
-            used += p.used;
-            if p.all {
-                let order = p.order;
-                let slots = globals::order_all(setup, rack.slots, order);
-                rack.slots = slots;
-            } else {
-                let supply = p.supply;
-                rack.slots[k] = supply;
-            }
-            next = p.next;
-            if found.many {
-                next = messages::ring_all(out, next, &registers, rack.slots, left);
-            } else {
-                let only = found.slot;
-                next = messages::ring_one(out, next, found, rack.slots[only], left);
-            }
-            going = (code == 0) & ((0 < left) | (next < full));
         } else if rest.len() < 3 {
-            code = 2;
+            refusal = Some(Refusal::ShortHeader);
             going = false;
         } else {
             let k = addressed::slot_or_first(setup, field::byte_at(rest, 3));
             let was = rack.slots[k];
-            let e = addressed::take_event(setup, was, rest);
-            let supply = e.supply;
-            rack.slots[k] = supply;
-            code = e.code;
-            used += e.used;
-            next = messages::ring(out, next, k as u8, was.feve, was.seve, supply);
-            going = (code == 0) & (next < full);
+            match addressed::take_event(setup, was, rest) {
+                Ok(event) => {
+                    rack.slots[k] = event.supply;
+                    used += event.used;
+                    next = messages::ring(out, next, k as u8, was.feve, was.seve, event.supply);
+                    going = next < full;
+                }
+                Err(e) => {
+                    refusal = Some(e);
+                    going = false;
+                }
+            }
         }
     }
     buffers::end_lines(out, next, ending);
@@ -121,6 +129,6 @@ pub fn work(r: Rack, s: &[u8], out: &mut [u8], full: usize, ending: u8) -> Worke
         rack,
         used,
         next,
-        code,
+        refusal,
     }
 }

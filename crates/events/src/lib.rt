@@ -2,7 +2,7 @@
 // What LINES, keys and the knob do to a supply.
 #![tactic(auto)]
 
-ghost use Rattle.std.specs.Prelude.{◌≡◌, true, false, eqb};
+ghost use Rattle.std.specs.Prelude.{◌≡◌, ◌<◌, true, false, eqb};
 ghost use Rattle.base.specs.Choice.{pick};
 ghost use Rattle.supply.specs.With.{with_want, with_armed};
 ghost use Rattle.supply.specs.Flt.{on_of, lines_clear};
@@ -18,49 +18,39 @@ fn any_rises(old: u8, new: u8) -> bool
     new & !old != 0
 }
 
-// Whether AC, bit 1 of LINES, falls.
+// Whether bit k of LINES falls.
 #[tactic(auto, unfolding(crate::specs::Events::falls, base::specs::Bits::bit_at))]
-fn ac_falls(old: u8, new: u8) -> bool
-    ensures { result ≡ falls 1 old new }
+fn falls(k: u32, old: u8, new: u8) -> bool
+    requires { k < 8 }
+    ensures { result ≡ falls k old new }
 {
-    (old / 2 % 2 == 1) & !(new / 2 % 2 == 1)
-}
-
-// Whether SO, bit 5 of LINES, falls.
-#[tactic(auto, unfolding(crate::specs::Events::falls, base::specs::Bits::bit_at))]
-fn so_falls(old: u8, new: u8) -> bool
-    ensures { result ≡ falls 5 old new }
-{
-    (old / 32 % 2 == 1) & !(new / 32 % 2 == 1)
+    (old >> k) % 2 == 1 && (new >> k) % 2 != 1
 }
 
 // MODE after a change of LINES: if AC fell, locked out becomes remote.
 fn unlocked(fell: bool, mode: u8) -> u8
     ensures { result ≡ pick fell (pick (eqb mode 2) 1 mode) mode }
 {
-    if fell {
-        if mode == 2 { 1 } else { mode }
-    } else {
-        mode
-    }
+    if fell && mode == 2 { 1 } else { mode }
 }
 
-// A new LINES byte.
+// A new LINES byte. With && for & the law of the cases was tried and did not close.
 #[tactic(auto, using(crate::proofs::Cases::lines_law))]
 pub fn lines_changed(s: Supply, b: u8) -> Supply
     ensures { result ≡ lines_changed s b }
 {
     let rose = any_rises(s.lines, b);
-    let ac = ac_falls(s.lines, b);
-    let so = so_falls(s.lines, b);
-    let mode = unlocked(ac, s.mode);
-    let mut t = s;
-    t.lines = b;
-    t.want = !(rose & !s.ast) & s.want;
-    t.fold_trip = !ac & s.fold_trip;
-    t.ovp_trip = !(so & s.ast) & (!ac & s.ovp_trip);
-    t.mode = mode;
-    t
+    // AC is bit 1 of LINES, and SO bit 5
+    let ac = falls(1, s.lines, b);
+    let so = falls(5, s.lines, b);
+    Supply {
+        lines: b,
+        want: !(rose & !s.ast) & s.want,
+        fold_trip: !ac & s.fold_trip,
+        ovp_trip: !(so & s.ast) & (!ac & s.ovp_trip),
+        mode: unlocked(ac, s.mode),
+        ..s
+    }
 }
 
 // Releases both trips and turns WANT on.
@@ -68,34 +58,33 @@ pub fn lines_changed(s: Supply, b: u8) -> Supply
 pub fn turn_on(s: Supply) -> Supply
     ensures { result ≡ turned_on s }
 {
-    let mut t = s;
-    t.fold_trip = false;
-    t.ovp_trip = false;
-    t.want = true;
-    t
+    Supply {
+        fold_trip: false,
+        ovp_trip: false,
+        want: true,
+        ..s
+    }
 }
 
 // Turns ARMED off; if there was a FOLD trip, releases it and turns WANT off.
-#[tactic(auto, using(crate::proofs::Cases::disarm_law))]
+#[tactic(auto, using(crate::proofs::Cases::disarm_law), unfolding(crate::specs::Events::disarmed))]
 pub fn disarm(s: Supply) -> Supply
     ensures { result ≡ disarmed s }
 {
-    let mut t = s;
-    t.armed = false;
-    t.want = !s.fold_trip & s.want;
-    t.fold_trip = false;
-    t
+    Supply {
+        armed: false,
+        want: !s.fold_trip && s.want,
+        fold_trip: false,
+        ..s
+    }
 }
 
 fn output_key(s: Supply) -> Supply
     ensures { result ≡ pick (on_of s) (with_want false s) (pick (lines_clear s) (turned_on s) s) }
 {
-    if supply::is_on(s) {
-        let mut t = s;
-        t.want = false;
-        return t;
-    }
-    if supply::lines_clear(s) {
+    if s.is_on() {
+        Supply { want: false, ..s }
+    } else if s.lines_clear() {
         turn_on(s)
     } else {
         s
@@ -108,9 +97,7 @@ fn fold_key(s: Supply) -> Supply
     if s.armed {
         disarm(s)
     } else {
-        let mut t = s;
-        t.armed = true;
-        t
+        Supply { armed: true, ..s }
     }
 }
 
@@ -120,17 +107,10 @@ pub fn press(s: Supply, k: Key) -> Supply
     ensures { result ≡ pressed s k }
 {
     match k {
-        Key::Output => { if s.mode == 0 { output_key(s) } else { s } }
-        Key::Fold => { if s.mode == 0 { fold_key(s) } else { s } }
-        Key::Local => {
-            if s.mode == 1 {
-                let mut t = s;
-                t.mode = 0;
-                t
-            } else {
-                s
-            }
-        }
+        Key::Output if s.mode == 0 => output_key(s),
+        Key::Fold if s.mode == 0 => fold_key(s),
+        Key::Local if s.mode == 1 => Supply { mode: 0, ..s },
+        Key::Output | Key::Fold | Key::Local => s,
     }
 }
 

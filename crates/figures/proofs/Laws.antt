@@ -3,20 +3,23 @@ use Prim.Native.Nat.{ℕ, zero, suc, ◌+◌, ◌-◌, ◌*◌, ◌^◌, ◌<◌
 use mathlib.Core.Path.{◌≡◌, refl, ap, ◌∙◌}
 use mathlib.Core.List.{List, [], ◌∷◌, ◌++◌}
 use mathlib.Core.Logic.{◌⊎◌, inl, inr}
-use mathlib.Core.Bool.{Bool, true, false, and-eq-true_iff}
+use mathlib.Core.Bool.{Bool, true, false, ◌&&◌, and-eq-true_iff}
 use native.Mathlib.Nat.{pow-suc, pow-le-pow_right, mul-le-mul_left, lt_of_le_of_lt, lt_of_lt_of_le, mul-lt-mul_of_pos_right}
 use native.Mathlib.Numerals.{add-one}
 use native.Mathlib.Omega.{arith}
 use lib.Arith.{digits_lt}
 use lib.Pow.{pow-add}
 use lib.Dec.{lit<, ltb, leb, eqb}
-use lib.ListN.{get_or, length, take, drop, drop_of_length-le, length-take, length-drop}
-use lib.Seq.{drop-cons}
-use borrow.Author.Tests.{eq-eqb, ne_eqb, lt-leb, le-leb, lt-ltb, leb-true, ltb-true, ltb-false, eqb-true}
+use lib.ListN.{get_or, length, take, drop, length-take, length-drop}
+use borrow.Author.Tests.{lt-ltb, lt-leb, le-leb, leb-true, ltb-true, ltb-false, eqb-true}
+use Rattle.std.specs.Prelude.{Some, None, cond}
+use Rattle.std.specs.List.{list_all, position_or_len}
+use Rattle.std.specs.Option.{unwrap_or}
+use Rattle.std.proofs.lemmas.List.Recursion.{is_position_or_len}
 use Rattle.base.specs.Choice.{pick}
 use Rattle.base.proofs.Choice.{pick_keeps}
-use Rattle.figures.specs.Digits.{digit_of, all_digits, run_value}
-use Rattle.figures.specs.Number.{first_at, whole, fraction, well_formed, whole_units, side_by_side, scaled_value, number_is, no_number, read_number}
+use Rattle.figures.specs.Digits.{is_digit, digit_of, all_digits, run_value}
+use Rattle.figures.specs.Number.{first_at, whole, fraction, well_formed, whole_units, side_by_side, scaled_value, number_is, no_number, number_in, read_number}
 use Rattle.figures.specs.Rounded.{RoundedTo, Spelled}
 use Rattle.figures.proofs.Rounding.{units_apart, within_half, whole_rounded, rounded_one}
 
@@ -43,44 +46,35 @@ unfolding run_value
 run_step s zero h = absurd (omega arith)
 run_step s (suc n) h = let e : suc n - 1 ≡ n = omega arith in rw e refl
 
--- whether all are digits, at the code's index i
-module _ (s : List ℕ) (i : ℕ) (h : i < length s) where
-  pub digits_low : get_or s i 0 < 48 → all_digits (drop i s) ≡ false
-  unfolding all_digits
-  digits_low e = rw (drop-cons s i 0 h, lt-leb 48 _ e) refl
-
-  pub digits_high : 48 ≤ get_or s i 0 → 57 < get_or s i 0 → all_digits (drop i s) ≡ false
-  unfolding all_digits
-  digits_high l e = rw (drop-cons s i 0 h, le-leb 48 _ l, lt-leb _ 57 e) refl
-
-  pub digits_on : 48 ≤ get_or s i 0 → get_or s i 0 ≤ 57 → all_digits (drop i s) ≡ all_digits (drop (i + 1) s)
-  unfolding all_digits
-  digits_on l e = rw (drop-cons s i 0 h, le-leb 48 _ l, le-leb _ 57 e, add-one) refl
-
-pub digits_end : (s : List ℕ) (i : ℕ) → length s ≤ i → all_digits (drop i s) ≡ true
+-- whether all are digits, as the code asks of each
+pub digits_each : (s : List ℕ) → list_all is_digit s ≡ all_digits s
 unfolding all_digits
-digits_end s i h = rw (drop_of_length-le s h) refl
+digits_each [] = refl
+digits_each (b ∷ bs) = ap (λ (t : Bool). is_digit b && t) (digits_each bs)
 
--- the first x, at the code's index i
-module _ (x : ℕ) (s : List ℕ) (i : ℕ) (h : i < length s) where
-  pub first_here : get_or s i 0 ≡ x → first_at x (drop i s) ≡ 0
-  unfolding first_at
-  first_here e = rw (drop-cons s i 0 h, eq-eqb _ _ e) refl
-
-  pub first_on : (get_or s i 0 ≡ x → ⊥) → first_at x (drop i s) ≡ suc (first_at x (drop (i + 1) s))
-  unfolding first_at
-  first_on e = rw (drop-cons s i 0 h, ne_eqb _ _ e, add-one) refl
-
-pub first_end : (x : ℕ) (s : List ℕ) (i : ℕ) → length s ≤ i → first_at x (drop i s) ≡ 0
-unfolding first_at
-first_end x s i h = rw (drop_of_length-le s h) refl
-
--- it lies inside the list or at its end
+-- the first x lies inside the list or at its end
 pub first_le : (x : ℕ) (t : List ℕ) → first_at x t ≤ length t
 unfolding first_at
 first_le x [] = omega arith
 first_le x (y ∷ ys) =
     pick_keeps (λ (n : ℕ). n ≤ suc (length ys)) (eqb y x) 0 (suc (first_at x ys)) (omega arith) (omega (arith, first_le x ys))
+
+-- the first x, as the code looks for it
+pub first_position : (x : ℕ) (s : List ℕ) → unwrap_or (cond (ltb (position_or_len (λ y. eqb y x) s) (length s)) (Some (position_or_len (λ y. eqb y x) s)) None) (length s)
+    ≡ first_at x s
+unfolding first_at
+first_position x s = rw (← counted) (by_test (ltb (first_at x s) (length s)) refl)
+  where
+    either : (b : Bool) (n : ℕ) → pick b 0 (suc n) ≡ cond b 0 (1 + n)
+    either true n = refl
+    either false n = omega arith
+
+    counted : first_at x s ≡ position_or_len (λ y. eqb y x) s
+    counted = is_position_or_len (first_at x) (λ y. eqb y x) refl (λ y ys. either (eqb y x) (first_at x ys)) s
+
+    by_test : (b : Bool) → ltb (first_at x s) (length s) ≡ b → unwrap_or (cond (ltb (first_at x s) (length s)) (Some (first_at x s)) None) (length s) ≡ first_at x s
+    by_test true e = rw e refl
+    by_test false e = rw e (omega (arith, first_le x s, ltb-false (first_at x s) (length s) e))
 
 -- what callers may use of wholeUnits: a whole number of units keeps its value, and there are at most a units
 pub units_exact : (v d : ℕ) → 0 < d → whole_units (v * d) d ≡ v
@@ -158,7 +152,7 @@ module _ (k : ℕ) (t : List ℕ) (h : well_formed t ≡ true) where
       rounded_one (side_by_side (whole t) (fraction t) * 10 ^ k) (10 ^ length (fraction t)) (pow_pos (length (fraction t))) v (read_number k t).value r number_rounded
 
 -- a text that is too long
-pub read_long : (k : ℕ) (t : List ℕ) → 12 < length t → no_number ≡ read_number k t
+pub read_long : (k : ℕ) (t : List ℕ) → 12 < length t → None ≡ number_in (read_number k t)
 unfolding read_number well_formed
 read_long k t h = rw (lt-leb _ 12 h) refl
 
@@ -177,17 +171,15 @@ module _ {t w f : List ℕ} (p : Parted t w f) where
   pub parts_short : length w + length f ≤ 12
   parts_short = rw (p.whole_is, p.fraction_is) (omega (arith, parts_le t))
 
-  pub bad_whole : (k : ℕ) → all_digits w ≡ false → no_number ≡ read_number k t
+  -- whether they spell a number, tested in the code's order
+  pub read_parts : (k : ℕ) (a b c : Bool) → all_digits w ≡ a → all_digits f ≡ b → ltb 0 (length w + length f) ≡ c
+      → pick (a && (b && c)) (Some (scaled_value k w f)) None ≡ number_in (read_number k t)
   unfolding read_number well_formed
-  bad_whole k a = rw (le-leb _ 12 p.short, ← p.whole_is, a) refl
-
-  pub bad_fraction : (k : ℕ) → all_digits w ≡ true → all_digits f ≡ false → no_number ≡ read_number k t
-  unfolding read_number well_formed
-  bad_fraction k a b = rw (le-leb _ 12 p.short, ← p.whole_is, a, ← p.fraction_is, b) refl
-
-  pub no_digit : (k : ℕ) → all_digits w ≡ true → all_digits f ≡ true → length w + length f ≡ 0 → no_number ≡ read_number k t
-  unfolding read_number well_formed
-  no_digit k a b e = rw (le-leb _ 12 p.short, ← p.whole_is, a, ← p.fraction_is, b, e) refl
+  read_parts k a b c ea eb ec = rw (le-leb _ 12 p.short, ← p.whole_is, ea, ← p.fraction_is, eb, ec) (by_test (a && (b && c)))
+    where
+      by_test : (g : Bool) → pick g (Some (scaled_value k w f)) None ≡ number_in (pick g (number_is (scaled_value k w f)) no_number)
+      by_test true = refl
+      by_test false = refl
 
   pub good_number : (k : ℕ) → all_digits w ≡ true → all_digits f ≡ true → (length w + length f ≡ 0 → ⊥) → number_is (scaled_value k w f) ≡ read_number k t
   unfolding read_number well_formed

@@ -1,8 +1,7 @@
 -- A number on the serial line: when it is well formed, and its value in units of a decimal place.
-use Rattle.std.specs.Prelude.{ℕ, suc, ◌+◌, ◌*◌, ◌/◌, ◌%◌, ◌^◌, List, [], ◌∷◌, Bool, true, false, ◌&&◌, length, take, drop, ltb, leb, eqb}
+use Rattle.std.specs.Prelude.{ℕ, Option, Some, None, suc, ◌+◌, ◌*◌, ◌/◌, ◌%◌, ◌^◌, List, [], ◌∷◌, Bool, true, false, ◌&&◌, length, take, drop, ltb, leb, eqb}
 use Rattle.base.specs.Choice.{pick}
 use Rattle.figures.specs.Digits.{all_digits, run_value}
-use Rattle.figures.specs.declared.Number.{Number}
 
 -- the index of the first x, or the length if there is none
 unfoldable pub first_at : ℕ → List ℕ → ℕ
@@ -40,6 +39,15 @@ side_by_side w f = run_value w (length w) * 10 ^ length f + run_value f (length 
 -- the same digits as a number with decimals, in units of the k-th decimal, rounded
 unfoldable pub scaled_value : ℕ → List ℕ → List ℕ → ℕ
 scaled_value k w f = whole_units (side_by_side w f * 10 ^ k) (10 ^ length f)
+
+-- what reading a text gives: a number, or good false and value 0 if the text is no number
+pub record Number : Type 0 where
+  pub good : Bool
+  pub value : ℕ
+
+-- the same as the code gives it
+abbrev pub number_in : Number → Option ℕ
+number_in n = pick n.good (Some n.value) None
 
 -- the results of reading a text: the number v, or no number
 abbrev pub number_is : ℕ → Number

@@ -1,14 +1,14 @@
--- The loops over the bytes of a fitting list and over the slots, against the fresh rack of the definitions.
-use Prim.Native.Nat.{ℕ, ◌+◌, ◌≤◌, ◌<◌}
+-- The bytes of a fitting list, each judged for itself, and the slots, each with a fresh supply of its model.
+use Prim.Native.Nat.{ℕ, ◌<◌}
 use mathlib.Core.Path.{◌≡◌, refl, sym, ap, ◌∙◌}
-use mathlib.Core.List.{List, [], ◌∷◌, ◌++◌, foldl}
-use mathlib.Core.Bool.{Bool, true, ◌&&◌}
-use native.Mathlib.Numerals.{add-one}
+use mathlib.Core.List.{List, [], ◌∷◌, foldl}
+use mathlib.Core.Bool.{Bool, true, false, ◌&&◌}
 use native.Mathlib.Omega.{arith}
-use lib.ListN.{length, get_or, set, take}
-use lib.Seq.{take-suc, take_all}
-use Rattle.base.specs.Lists.{tabulate, each_to}
-use Rattle.base.proofs.Lists.{get_d_any, tabulate_same, each_to_again, each_to_all}
+use lib.ListN.{length, get_or}
+use Rattle.std.specs.List.{list_all}
+use Rattle.std.proofs.lemmas.List.{same_lists}
+use Rattle.base.specs.Lists.{tabulate}
+use Rattle.base.proofs.Lists.{length_tabulate, get_d_any, get_d_tabulate}
 use Rattle.wire.specs.Wire.{fresh_wire}
 use Rattle.supply.specs.declared.Supply.{Supply}
 use Rattle.supply.specs.State.{fresh}
@@ -20,36 +20,27 @@ use Rattle.slots.specs.View.{rack_is}
 abbrev also : Bool → ℕ → Bool
 also t m = t && allowed m
 
-last : (t : Bool) (l : List ℕ) (x : ℕ) → foldl also t (l ++ x ∷ []) ≡ also (foldl also t l) x
-last t [] x = refl
-last t (y ∷ l) x = last (also t y) l x
+-- judging goes on after bytes that are allowed, and nothing mends one that is not
+none_after : (l : List ℕ) → false ≡ foldl also false l
+none_after [] = refl
+none_after (m ∷ ms) = none_after ms
 
--- the bytes of the list, one after another
-pub allowed_none : true ≡ all_allowed []
+-- whether all are allowed, as the code asks of each
+pub allowed_each : (l : List ℕ) → list_all allowed l ≡ all_allowed l
 unfolding all_allowed
-allowed_none = refl
+allowed_each [] = refl
+allowed_each (m ∷ ms) = by_test (allowed m) (allowed_each ms)
+  where
+    by_test : (t : Bool) → list_all allowed ms ≡ foldl also true ms → (t && list_all allowed ms) ≡ foldl also t ms
+    by_test true e = e
+    by_test false e = none_after ms
 
-pub allowed_more : (l : List ℕ) (i : ℕ) (g : Bool) → i < length l → g ≡ all_allowed (take i l) → also g (get_or l i 0) ≡ all_allowed (take (i + 1) l)
-unfolding all_allowed
-allowed_more l i g h e = rw (add-one, take-suc l i 0 h, e) (sym (last true (take i l) (get_or l i 0)))
-
-pub allowed_all : (l : List ℕ) (i : ℕ) (g : Bool) → length l ≤ i → g ≡ all_allowed (take i l) → g ≡ all_allowed l
-allowed_all l i g h e = e ∙ ap all_allowed (take_all i l h)
-
--- the models, copied
-pub models_are : (l xs start : List ℕ) (k : ℕ) → k ≤ 31 → 31 ≤ k → length start ≡ 31 → xs ≡ each_to (λ a m. get_or l a 0) k start → length l ≡ 31 → xs ≡ l
-models_are l xs start k h g n e m =
-    e ∙ each_to_all (λ a x. get_or l a 0) k start 0 (omega arith) ∙ ap (λ (j : ℕ). tabulate j (λ i. get_or l i 0)) (n ∙ sym m) ∙ tabulate_same 0 l
-
--- the slots, one fresh supply after another
-abbrev fresh_at : List ℕ → ℕ → Supply → Supply
-fresh_at models a s = fresh (get_or models a 255)
-
-pub fresh_again : (models : List ℕ) (d i : ℕ) (start xs : List Supply) (y : Supply) → i < length models → xs ≡ each_to (fresh_at models) i start → y ≡ fresh (get_or models i d) → set xs i y ≡ each_to (fresh_at models) (i + 1) start
-fresh_again models d i start xs y h e g = each_to_again (fresh_at models) i start xs (fresh 255) y e (g ∙ ap fresh (get_d_any models i d 255 h))
-
-pub made : (models : List ℕ) (ss start : List Supply) (k : ℕ) (l : Line) → length models ≡ 31 → length start ≡ 31 → k ≤ 31 → 31 ≤ k → ss ≡ each_to (fresh_at models) k start → wire_of l ≡ fresh_wire → Short l
+-- the slots are fresh supplies of their models
+pub made : (models : List ℕ) (ss : List Supply) (l : Line) → length models ≡ 31 → length ss ≡ 31 → ((i : ℕ) → i < 31 → get_or ss i (fresh 255) ≡ fresh (get_or models i 255)) → wire_of l ≡ fresh_wire → Short l
     → Made (record { models = models }) (rack_is ss l (record { models = models }))
-made models ss start k l n m h g e w small =
-    let s : ss ≡ tabulate 31 (λ a. fresh (get_or models a 255)) = e ∙ each_to_all (fresh_at models) k start (fresh 255) (omega arith) ∙ rw m refl in
-    record { small = small; fresh_is = rw (w, s, n) refl }
+made models ss l n m each w small =
+    let f : ℕ → Supply = λ a. fresh (get_or models a 255) in
+    let slots : ss ≡ tabulate (length models) f =
+    same_lists ss (tabulate (length models) f) (m ∙ sym n ∙ sym (length_tabulate (length models) f))
+    (λ k d h. get_d_any ss k d (fresh 255) h ∙ each k (omega (arith, h, m)) ∙ sym (get_d_tabulate (length models) f k d (omega (arith, h, m, n)))) in
+    record { small = small; fresh_is = rw (w, slots) refl }

@@ -1,17 +1,16 @@
 -- Laws of hexadecimal digits and checksums: reading and placing digit by digit, and a placed byte reads back as itself.
 use Prim.Native.Nat.{ℕ, ◌+◌, ◌-◌, ◌*◌, ◌/◌, ◌%◌, ◌<◌, ◌≤◌}
-use mathlib.Core.Path.{◌≡◌, refl, ap}
+use mathlib.Core.Path.{◌≡◌, refl, ap, ◌∙◌}
 use mathlib.Core.Bool.{Bool, true, false, ◌&&◌, false≢true, and-eq-true_iff}
-use mathlib.Core.List.{List}
-use native.Mathlib.Numerals.{add-one}
+use mathlib.Core.List.{List, [], ◌∷◌}
 use native.Mathlib.Omega.{arith}
 use lib.Dec.{ltb, leb, eqb}
-use lib.ListN.{length, get_or, drop, drop_of_length-le}
-use lib.Seq.{drop-cons}
+use lib.ListN.{length, get_or}
 use borrow.Author.Tests.{le-leb, lt-leb, eq-eqb, ne_eqb, ltb-true, ltb-false, leb-true}
+use Rattle.std.specs.Prelude.{Option, Some, None, fold}
 use Rattle.base.specs.Choice.{pick}
-use Rattle.figures.specs.Number.{number_is, no_number}
-use Rattle.hexadecimal.specs.Hex.{is_hex, hex_of, read_hex, hex_digit, hex_pair, total}
+use Rattle.figures.specs.Number.{number_is, no_number, number_in}
+use Rattle.hexadecimal.specs.Hex.{is_hex, hex_of, read_hex, hex_digit, hex_pair, total, checksum}
 
 -- a printed digit reads back as its value
 digit_trip : (n : ℕ) → n < 16 → (is_hex (hex_digit n) ≡ true) × (hex_of (hex_digit n) ≡ n)
@@ -77,19 +76,49 @@ hex_lt t = by_test (eqb (length t) 2 && (is_hex (get_or t 0 0) && is_hex (get_or
 
 -- what the code reads
 module _ (t : List ℕ) where
-  pub hex_length : (length t ≡ 2 → ⊥) → no_number ≡ read_hex t
+  pub hex_length : (length t ≡ 2 → ⊥) → None ≡ number_in (read_hex t)
   unfolding read_hex
   hex_length h = rw (ne_eqb _ 2 h) refl
 
-  pub hex_pick : length t ≡ 2 → (b : Bool) → (is_hex (get_or t 0 0) && is_hex (get_or t 1 0)) ≡ b → pick b (number_is (hex_of (get_or t 0 0) * 16 + hex_of (get_or t 1 0))) no_number ≡ read_hex t
-  unfolding read_hex
-  hex_pick h b e = rw (eq-eqb _ 2 h, e) refl
+  -- the value of the character at i, as the code tells it
+  abbrev at : ℕ → Option ℕ
+  at i = pick (is_hex (get_or t i 0)) (Some (hex_of (get_or t i 0))) None
 
--- the checksum, at the code's index i
-pub total_step : (s : List ℕ) (i : ℕ) → i < length s → total (drop i s) ≡ get_or s i 0 + total (drop (i + 1) s)
-unfolding total
-total_step s i h = rw (drop-cons s i 0 h, add-one) refl
+  value_at : (i : ℕ) {n : ℕ} → Some n ≡ at i → (is_hex (get_or t i 0) ≡ true) × (n ≡ hex_of (get_or t i 0))
+  value_at i = by_test (is_hex (get_or t i 0))
+    where
+      by_test : (b : Bool) {m n : ℕ} → Some n ≡ pick b (Some m) None → (b ≡ true) × (n ≡ m)
+      by_test true e = (refl, cc)
+      by_test false e = absurd (cc)
 
-pub total_end : (s : List ℕ) (i : ℕ) → length s ≤ i → total (drop i s) ≡ 0
-unfolding total
-total_end s i h = rw (drop_of_length-le s h) refl
+  none_at : (i : ℕ) → None ≡ at i → is_hex (get_or t i 0) ≡ false
+  none_at i = by_test (is_hex (get_or t i 0)) (hex_of (get_or t i 0))
+    where
+      by_test : (b : Bool) (m : ℕ) → None ≡ pick b (Some m) None → b ≡ false
+      by_test true m e = absurd (cc)
+      by_test false m e = refl
+
+  pub value_lt : (i : ℕ) {n : ℕ} → Some n ≡ at i → n < 16
+  value_lt i e = let v = value_at i e in omega (arith, hex_of_lt (get_or t i 0) v.0, v.1)
+
+  module _ (two : length t ≡ 2) where
+    pub hex_high : None ≡ at 0 → None ≡ number_in (read_hex t)
+    unfolding read_hex
+    hex_high e = rw (eq-eqb _ 2 two, none_at 0 e) refl
+
+    pub hex_low : {m : ℕ} → Some m ≡ at 0 → None ≡ at 1 → None ≡ number_in (read_hex t)
+    unfolding read_hex
+    hex_low d e = let v = value_at 0 d in rw (eq-eqb _ 2 two, v.0, none_at 1 e) refl
+
+    pub hex_both : {m n : ℕ} → Some m ≡ at 0 → Some n ≡ at 1 → Some (m * 16 + n) ≡ number_in (read_hex t)
+    unfolding read_hex
+    hex_both d e = let v = value_at 0 d in let w = value_at 1 e in rw (eq-eqb _ 2 two, v.0, w.0, v.1, w.1) refl
+
+-- the checksum, byte by byte
+pub sum_by_byte : (s : List ℕ) → fold (λ t b. (t + b) % 256) 0 s ≡ checksum s
+unfolding total checksum
+sum_by_byte s = from 0 s (omega arith) ∙ ap (λ (n : ℕ). n % 256) (omega arith)
+  where
+    from : (t : ℕ) (s : List ℕ) → t < 256 → fold (λ t b. (t + b) % 256) t s ≡ (t + total s) % 256
+    from t [] h = omega arith
+    from t (b ∷ bs) h = omega (arith, from ((t + b) % 256) bs (omega arith))

@@ -3,7 +3,7 @@ use Rattle.std.specs.Prelude.{ℕ, ◌+◌, ◌-◌, ◌*◌, ◌/◌, ◌%◌, 
 use Rattle.base.specs.Choice.{pick}
 use Rattle.figures.specs.Digits.{is_digit}
 use Rattle.figures.specs.Number.{number_is, no_number}
-use Rattle.figures.specs.declared.Number.{Number}
+use Rattle.figures.specs.Number.{Number}
 
 -- 0 to 9, A to F (65 to 70) or a to f (97 to 102)
 unfoldable pub is_hex : ℕ → Bool

@@ -2,61 +2,41 @@
 // Bytes as hexadecimal digits, read and placed into a lent buffer, and the checksum of a line.
 #![tactic(auto)]
 
-ghost use Rattle.std.specs.Prelude.{◌≡◌, ◌<◌};
+ghost use Rattle.std.specs.Prelude.{◌≡◌, ◌<◌, Some, None};
+ghost use Rattle.base.specs.Choice.{pick};
 ghost use Rattle.base.specs.Put.{Put};
+ghost use Rattle.figures.specs.Number.{number_in};
 ghost use Rattle.hexadecimal.specs.Hex.{is_hex, hex_of, read_hex, hex_digit, hex_pair, checksum};
 
-use figures::Number;
-
-// Whether b is a hexadecimal digit in either case.
-fn is_hex(b: u8) -> bool
-    ensures { result ≡ is_hex b }
+#[tactic(auto, unfolding(crate::specs::Hex::is_hex, crate::specs::Hex::hex_of))]
+// The value of a hexadecimal digit in either case; none for any other character.
+fn hex_value(b: u8) -> Option<u8>
+    ensures { result ≡ pick (is_hex b) (Some (hex_of b)) None }
 {
-    (48 <= b) & (b <= 57) | ((65 <= b) & (b <= 70) | (97 <= b) & (b <= 102))
-}
-
-// The value of a hexadecimal digit in either case.
-fn hex_of(b: u8) -> u64
-    ensures { (result ≡ hex_of b) × (result < 256) }
-{
-    if b <= 57 {
-        if b < 48 { 0 } else { (b - 48) as u64 }
-    } else if b <= 70 {
-        (b - 55) as u64
-    } else if b < 87 {
-        0
-    } else {
-        (b - 87) as u64
+    match b {
+        b'0'..=b'9' => Some(b - b'0'),
+        b'A'..=b'F' => Some(b - b'A' + 10),
+        b'a'..=b'f' => Some(b - b'a' + 10),
+        _ => None,
     }
 }
 
 // The byte that two hexadecimal digits in either case spell.
-pub fn read_hex(s: &[u8]) -> Number
-    ensures { result ≡ read_hex s.now }
+#[tactic(auto, using(crate::proofs::Laws::hex_length))]
+pub fn read_hex(s: &[u8]) -> Option<u8>
+    ensures { result ≡ number_in (read_hex s.now) }
 {
-    if s.len() != 2 {
-        return figures::no_number();
-    }
-    if !(is_hex(s[0]) & is_hex(s[1])) {
-        return figures::no_number();
-    }
-    Number {
-        good: true,
-        value: hex_of(s[0]) * 16 + hex_of(s[1]),
-    }
+    let [high, low] = s else {
+        return None;
+    };
+    Some(hex_value(*high)? * 16 + hex_value(*low)?)
 }
 
 // The checksum of s: the sum of its bytes modulo 256.
 pub fn checksum(s: &[u8]) -> u8
     ensures { result ≡ checksum s.now }
 {
-    let mut t: u64 = 0;
-    let mut i = 0;
-    while i < s.len() {
-        t = (t + base::wide(s[i])) % 256;
-        i += 1;
-    }
-    t as u8
+    s.iter().fold(0, |t: u8, b| t.wrapping_add(*b))
 }
 
 // The capital hexadecimal digit for n.
@@ -64,7 +44,7 @@ pub fn hex_digit(n: u8) -> u8
     requires { n < 16 }
     ensures { result ≡ hex_digit n }
 {
-    if n < 10 { 48 + n } else { 55 + n }
+    if n < 10 { b'0' + n } else { b'A' + (n - 10) }
 }
 
 // Places b as two capital hexadecimal digits.

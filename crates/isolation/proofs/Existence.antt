@@ -16,7 +16,7 @@ use Rattle.supply.specs.declared.Supply.{Supply}
 use Rattle.plain.specs.Plain.{plain_supply}
 use Rattle.slots.specs.declared.Rack.{Rack}
 use Rattle.slots.specs.View.{view_of}
-use Rattle.calls.specs.declared.Answer.{Answer}
+use Rattle.calls.specs.Calls.{Answer}
 use Rattle.calls.specs.Calls.{refusal, Answered, call_as}
 use Rattle.fitting.specs.Fitting.{good_list}
 use Rattle.isolation.specs.Demand3.{Through, Leads, Run, setup_of}

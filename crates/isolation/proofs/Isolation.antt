@@ -17,7 +17,7 @@ use Rattle.plain.proofs.Unaddressed.{addresses_unread}
 use Rattle.plain.proofs.Reached.{shares_coherent}
 use Rattle.plain.proofs.Remembered.{remembers}
 use Rattle.slots.specs.declared.Rack.{Rack}
-use Rattle.calls.specs.declared.Answer.{Answer}
+use Rattle.calls.specs.Calls.{Answer}
 use Rattle.slots.specs.View.{view_of, Able}
 use Rattle.calls.specs.Calls.{Answered, call_as}
 use Rattle.isolation.specs.Demand3.{Leads, Run, supply_at, Isolated}

@@ -18,7 +18,7 @@ use Rattle.plain.specs.Plain.{plain_supply, grammar, trips, step_of, releases_of
 use Rattle.plain.specs.Unaddressed.{unaddressed}
 use Rattle.plain.specs.Remembered.{CvSince}
 use Rattle.slots.specs.declared.Rack.{Rack}
-use Rattle.calls.specs.declared.Answer.{Answer}
+use Rattle.calls.specs.Calls.{Answer}
 use Rattle.fitting.specs.declared.Fitted.{Fitted}
 use Rattle.calls.specs.Calls.{CallDoes}
 use Rattle.fitting.specs.Fitting.{good_list}

@@ -8,12 +8,12 @@ use native.Mathlib.Numerals.{add-one}
 use lib.Dec.{T, eqb, eqb→eq}
 use lib.ListN.{length, get_or, drop, drop_of_length-le}
 use lib.Seq.{drop-cons}
-use borrow.Author.Tests.{eq-eqb, ne_eqb}
+use Rattle.std.specs.Prelude.{Option, Some, None, cond}
+use Rattle.std.specs.Option.{option_map}
+use Rattle.std.specs.List.{find}
 use Rattle.base.specs.Choice.{pick}
 use Rattle.base.proofs.Table.{Check, lt, le, ◌and◌, every, and_left, and_right}
 use Rattle.leads.specs.declared.Row.{Row}
-use Rattle.leads.specs.declared.Listing.{Listing}
-use Rattle.leads.specs.declared.Listing.TheVariants.{Listed, Unlisted}
 use Rattle.leads.specs.Gauges.{row_of, table, row_at, first_row, listing_in, listing_of, within_limit}
 use Rattle.leads.specs.Advice.{some_in}
 
@@ -38,25 +38,18 @@ module _ {A : Type 0} (test : Row → Bool) (v : Row → A) (e : A) (i : ℕ) wh
   unfolding first_row table
   first_end h = rw (drop_of_length-le table h) refl
 
+-- ---- what rows have for a gauge, as the code finds it
+pub found : (g : ℕ) (s : List Row) → option_map (λ (x : Row). x.resistance) (find (λ (x : Row). eqb x.gauge g) s) ≡ listing_in s g
+unfolding listing_in first_row
+found g [] = refl
+found g (x ∷ xs) = go (eqb x.gauge g) (find (λ (y : Row). eqb y.gauge g) xs) (found g xs)
+  where
+    go : (b : Bool) (o : Option Row) {l : Option ℕ} → option_map (λ (y : Row). y.resistance) o ≡ l
+        → option_map (λ (y : Row). y.resistance) (cond b (Some x) o) ≡ pick b (Some x.resistance) l
+    go true o e = refl
+    go false o e = e
+
 -- ---- one turn of a loop, at row i, which is x
-module _ (g i : ℕ) where
-  pub listing_here : i < 8 → (x : Row) → x ≡ row_at i → x.gauge ≡ g → listing_in (drop i table) g ≡ Listed x.resistance
-  unfolding listing_in
-  listing_here h x r e =
-      first_here (λ (y : Row). eqb y.gauge g) (λ (y : Row). Listed y.resistance) Unlisted i h
-      (ap (λ (y : Row). eqb y.gauge g) (sym r) ∙ eq-eqb x.gauge g e)
-      ∙ ap (λ (y : Row). Listed y.resistance) (sym r)
-
-  pub listing_on : i < 8 → (x : Row) → x ≡ row_at i → (x.gauge ≡ g → ⊥) → listing_in (drop i table) g ≡ listing_in (drop (i + 1) table) g
-  unfolding listing_in
-  listing_on h x r e =
-      first_on (λ (y : Row). eqb y.gauge g) (λ (y : Row). Listed y.resistance) Unlisted i h
-      (ap (λ (y : Row). eqb y.gauge g) (sym r) ∙ ne_eqb x.gauge g e)
-
-  pub listing_end : 8 ≤ i → listing_in (drop i table) g ≡ Unlisted
-  unfolding listing_in
-  listing_end h = first_end (λ (x : Row). eqb x.gauge g) (λ (x : Row). Listed x.resistance) Unlisted i h
-
 module _ (ma mm i : ℕ) where
   pub some_here : i < 8 → (x : Row) → x ≡ row_at i → within_limit ma x.resistance mm ≡ true → some_in (drop i table) ma mm ≡ true
   unfolding some_in
@@ -85,9 +78,9 @@ at_index f (x ∷ xs) t (suc i) d h = at_index f xs (and_right (f x).test (every
 abbrev Rule : Row → Check
 Rule x = lt 0 x.resistance and le x.resistance 82870
 
-abbrev pub Fine : Listing → Type 0
-Fine Unlisted = Unit {0}
-Fine (Listed r) = (0 < r) × (r ≤ 82870)
+abbrev pub Fine : Option ℕ → Type 0
+Fine None = Unit {0}
+Fine (Some r) = (0 < r) × (r ≤ 82870)
 
 listed_fine : (s : List Row) → T (every Rule s) → (g : ℕ) → Fine (listing_in s g)
 unfolding listing_in first_row
@@ -96,7 +89,7 @@ listed_fine (x ∷ xs) t g =
     go (eqb x.gauge g) _ ((Rule x).sound (and_left (Rule x).test (every Rule xs) t))
     (listed_fine xs (and_right (Rule x).test (every Rule xs) t) g)
   where
-    go : (b : Bool) (l : Listing) → Fine (Listed x.resistance) → Fine l → Fine (pick b (Listed x.resistance) l)
+    go : (b : Bool) (l : Option ℕ) → Fine (Some x.resistance) → Fine l → Fine (pick b (Some x.resistance) l)
     go true l f g = f
     go false l f g = g
 
@@ -113,18 +106,18 @@ unfolding row_at
 row_le i h x r = subst (λ (y : Row). y.resistance ≤ 82870) (sym r) (at_index Rule table rules i (row_of 0 0) (in_table i h)).1
 
 -- each row is looked up as itself
-abbrev pub listed_as : Listing → ℕ → Bool
-listed_as Unlisted r = false
-listed_as (Listed q) r = eqb q r
+abbrev pub listed_as : Option ℕ → ℕ → Bool
+listed_as None r = false
+listed_as (Some q) r = eqb q r
 
-pub listed_as_lem : (l : Listing) (r : ℕ) → T (listed_as l r) → l ≡ Listed r
-listed_as_lem Unlisted r t = absurd t
-listed_as_lem (Listed q) r t = ap Listed (eqb→eq q r t)
+pub listed_as_lem : (l : Option ℕ) (r : ℕ) → T (listed_as l r) → l ≡ Some r
+listed_as_lem None r t = absurd t
+listed_as_lem (Some q) r t = ap Some (eqb→eq q r t)
 
 abbrev pub Own : Row → Check
 Own x =
     record {
-      fact = listing_of x.gauge ≡ Listed x.resistance;
+      fact = listing_of x.gauge ≡ Some x.resistance;
       test = listed_as (listing_of x.gauge) x.resistance;
       sound = listed_as_lem (listing_of x.gauge) x.resistance;
     }
@@ -133,15 +126,15 @@ pub own_rows : T (every Own table)
 unfolding table listing_of listing_in first_row
 own_rows = tt
 
-pub own_row : (i : ℕ) → i < 8 → (x : Row) → x ≡ row_at i → listing_of x.gauge ≡ Listed x.resistance
+pub own_row : (i : ℕ) → i < 8 → (x : Row) → x ≡ row_at i → listing_of x.gauge ≡ Some x.resistance
 unfolding row_at
 own_row i h x r =
-    subst (λ (y : Row). listing_of y.gauge ≡ Listed y.resistance) (sym r)
+    subst (λ (y : Row). listing_of y.gauge ≡ Some y.resistance) (sym r)
     (at_index Own table own_rows i (row_of 0 0) (in_table i h))
 
 -- ---- where a row passes a test, there is one that does
 abbrev pub Passing : (Row → Bool) → Type 0
-Passing test = (x : Row) × T (test x) × (listing_of x.gauge ≡ Listed x.resistance)
+Passing test = (x : Row) × T (test x) × (listing_of x.gauge ≡ Some x.resistance)
 
 pub some_row : (test : Row → Bool) (s : List Row) → T (every Own s) → T (first_row test (λ (x : Row). true) false s) → Passing test
 unfolding first_row

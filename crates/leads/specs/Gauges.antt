@@ -1,9 +1,7 @@
 -- GAUGES: table 2-2 of the manual, and the ranges of the lead adviser.
-use Rattle.std.specs.Prelude.{Bool, true, false, ◌&&◌, List, [], ◌∷◌, ℕ, ◌*◌, eqb, leb, get_or}
+use Rattle.std.specs.Prelude.{Bool, true, false, ◌&&◌, List, [], ◌∷◌, ℕ, ◌*◌, eqb, leb, get_or, Option, Some, None}
 use Rattle.base.specs.Choice.{pick}
 use Rattle.leads.specs.declared.Row.{Row}
-use Rattle.leads.specs.declared.Listing.{Listing}
-use Rattle.leads.specs.declared.Listing.TheVariants.{Listed, Unlisted}
 
 abbrev pub row_of : ℕ → ℕ → Row
 row_of g r = record { gauge = g; resistance = r }
@@ -30,16 +28,16 @@ unfoldable pub first_row : {A : Type 0} → (Row → Bool) → (Row → A) → A
 first_row test v e [] = e
 first_row test v e (x ∷ xs) = pick (test x) (v x) (first_row test v e xs)
 
--- what rows have for a gauge, and what the table has
-unfoldable pub listing_in : List Row → ℕ → Listing
-listing_in s g = first_row (λ (x : Row). eqb x.gauge g) (λ (x : Row). Listed x.resistance) Unlisted s
+-- what rows have for a gauge, and what the table has: its resistance, or nothing
+unfoldable pub listing_in : List Row → ℕ → Option ℕ
+listing_in s g = first_row (λ (x : Row). eqb x.gauge g) (λ (x : Row). Some x.resistance) None s
 
-unfoldable pub listing_of : ℕ → Listing
+unfoldable pub listing_of : ℕ → Option ℕ
 listing_of g = listing_in table g
 
-abbrev pub is_listed : Listing → Bool
-is_listed Unlisted = false
-is_listed (Listed r) = true
+abbrev pub is_listed : Option ℕ → Bool
+is_listed None = false
+is_listed (Some r) = true
 
 abbrev pub in_range : ℕ → ℕ → Bool
 in_range most n = leb 1 n && leb n most

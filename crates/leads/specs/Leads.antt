@@ -1,12 +1,10 @@
 -- WHAT HOLDS OF LEADS: of the table, the tests and the two answers.
-use Rattle.std.specs.Prelude.{◌≡◌, ◌↔◌, Bool, false, not, ◌&&◌, ◌||◌, List, [], ◌∷◌, map, ℕ, ◌*◌, ◌≤◌, T, eqb, Float}
+use Rattle.std.specs.Prelude.{◌≡◌, ◌↔◌, Bool, false, not, ◌&&◌, ◌||◌, List, [], ◌∷◌, map, ℕ, ◌*◌, ◌≤◌, T, eqb, Float, Some, None, Ok}
 use Rattle.std.specs.Float.Ieee.{le}
 use Rattle.base.specs.Choice.{pick}
 use Rattle.quotients.specs.Quotient.{rounded}
 use Rattle.quotients.specs.Nearest.{NearestFloat}
 use Rattle.leads.specs.declared.Row.{Row}
-use Rattle.leads.specs.declared.Listing.TheVariants.{Listed, Unlisted}
-use Rattle.leads.specs.declared.Longest.TheVariants.{Metres}
 use Rattle.leads.specs.Gauges.{table, listing_of, is_listed, current_in, length_in, within_limit}
 use Rattle.leads.specs.Longest.{longest_of, lead_numbers}
 use Rattle.leads.specs.Advice.{suits, some_suits, advice_of, gauge_numbers}
@@ -25,8 +23,8 @@ has (x ∷ xs) g = eqb x g || has xs g
 -- the gauges stand in this order; each is looked up as its own resistance, and no other is listed
 pub record Columns : Type 0 where
   pub listed : map (λ (x : Row). x.gauge) table ≡ gauges
-  pub each : map listing_of gauges ≡ map Listed resistances
-  pub others : (g : ℕ) → T (not (has gauges g)) → listing_of g ≡ Unlisted
+  pub each : map listing_of gauges ≡ map Some resistances
+  pub others : (g : ℕ) → T (not (has gauges g)) → listing_of g ≡ None
 
 -- what each test says, as a fact about numbers
 pub record Tests : Type 0 where
@@ -44,12 +42,12 @@ pub record Refusals : Type 0 where
 
 -- no float is nearer to the exact quotient than the metres, x, that are returned
 abbrev pub MetresNearest : Type 0
-MetresNearest = (g ma : ℕ) (x : Float) → longest_of g ma ≡ Metres x
-    → (r : ℕ) × (listing_of g ≡ Listed r) × NearestFloat x 10000000000 (ma * r)
+MetresNearest = (g ma : ℕ) (x : Float) → longest_of g ma ≡ Ok x
+    → (r : ℕ) × (listing_of g ≡ Some r) × NearestFloat x 10000000000 (ma * r)
 
 -- A length is taken here as mm / 1000 metres, rounded. The longest lead x of a gauge that suits it is no shorter, and that
 -- of a gauge that does not is no longer.
 pub record Agree : Type 0 where
-  pub reaches : (ma mm g : ℕ) (x : Float) → longest_of g ma ≡ Metres x → T (suits ma mm g) → T (le (rounded mm 1000) x)
-  pub falls_short : (ma mm g : ℕ) (x : Float) → longest_of g ma ≡ Metres x → T (not (suits ma mm g))
+  pub reaches : (ma mm g : ℕ) (x : Float) → longest_of g ma ≡ Ok x → T (suits ma mm g) → T (le (rounded mm 1000) x)
+  pub falls_short : (ma mm g : ℕ) (x : Float) → longest_of g ma ≡ Ok x → T (not (suits ma mm g))
       → T (le x (rounded mm 1000))

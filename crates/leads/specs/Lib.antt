@@ -1,4 +1,5 @@
 pub mod Gauges
+pub mod Refusal
 pub mod Longest
 pub mod Advice
 pub mod Leads

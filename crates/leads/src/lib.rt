@@ -4,9 +4,10 @@
 #![tactic(auto)]
 
 ghost use Rattle.std.specs.Prelude.{◌≡◌, ◌<◌, ◌≤◌};
-ghost use Rattle.leads.specs.Gauges.{row_at, listing_of, in_range, within_limit};
-ghost use Rattle.leads.specs.Longest.{longest_of, no_lead, lead_numbers};
-ghost use Rattle.leads.specs.Advice.{Suitable, named_of, chosen, advice_of, no_gauge, gauge_numbers};
+ghost use Rattle.leads.specs.Gauges.{listing_of, in_range, within_limit};
+ghost use Rattle.leads.specs.Refusal.{refusal_number};
+ghost use Rattle.leads.specs.Longest.{longest_of, lead_numbers};
+ghost use Rattle.leads.specs.Advice.{Suitable, named_of, chosen, advice_of, gauge_numbers};
 
 // A row of the table: a gauge, and its resistance in tenths of a milliohm per km.
 #[derive(Clone, Copy)]
@@ -56,30 +57,29 @@ const MOST_MA: u64 = 150_000;
 // The greatest length, in mm.
 const MOST_MM: u64 = 1_000_000;
 
-// What the table has for a gauge: its resistance, or nothing.
-#[derive(Clone, Copy)]
-enum Listing {
-    Listed(u64),
-    Unlisted,
-}
-
-// The longest lead in metres; or refusal 9, or 10.
-#[derive(Clone, Copy)]
-pub enum Longest {
-    Metres(f64),
+// Why there is no longest lead, or no gauge: the gauge is not listed, the current or the length is out of range, or no
+// listed gauge suits.
+#[derive(Clone, Copy, Debug, PartialEq, Eq)]
+pub enum LeadRefusal {
     NotListed,
-    CurrentOutside,
-}
-
-// A gauge that suits; or refusal 10, or 11.
-#[derive(Clone, Copy)]
-pub enum Advice {
-    Gauge(u64),
-    Outside,
+    OutOfRange,
     NoneSuits,
 }
 
-// The longest lead as numbers: code 0 and the metres, or the refusal and 0.0.
+// The number that the paper gives each refusal.
+impl From<LeadRefusal> for u8 {
+    fn from(refusal: LeadRefusal) -> u8
+        ensures { result ≡ refusal_number refusal }
+    {
+        match refusal {
+            LeadRefusal::NotListed => 9,
+            LeadRefusal::OutOfRange => 10,
+            LeadRefusal::NoneSuits => 11,
+        }
+    }
+}
+
+// The longest lead as numbers, since no enum crosses to C: code 0 and the metres, or the refusal and 0.0.
 #[repr(C)]
 #[derive(Clone, Copy)]
 pub struct LongestLead {
@@ -87,7 +87,7 @@ pub struct LongestLead {
     pub metres: f64,
 }
 
-// A gauge as numbers: code 0 and the gauge, or the refusal and 255, which is not listed.
+// A gauge as numbers, for C too: code 0 and the gauge, or the refusal and 255, which is not listed.
 #[repr(C)]
 #[derive(Clone, Copy)]
 pub struct GaugeFor {
@@ -95,47 +95,32 @@ pub struct GaugeFor {
     pub gauge: u64,
 }
 
-fn row_at(i: usize) -> Row
-    requires { i < 8 }
-    ensures { result ≡ row_at i }
-{
-    TABLE[i]
-}
-
-// The row of a gauge.
-fn look_up(gauge: u64) -> Listing
+// The resistance of a listed gauge.
+fn look_up(gauge: u64) -> Option<u64>
     ensures { result ≡ listing_of gauge }
 {
-    let mut i = 0usize;
-    while i < 8 {
-        let row = row_at(i);
-        if row.gauge == gauge {
-            return Listing::Listed(row.resistance);
-        }
-        i += 1;
-    }
-    Listing::Unlisted
+    TABLE
+        .iter()
+        .find(|row| row.gauge == gauge)
+        .map(|row| row.resistance)
 }
 
 // Whether n is from 1 to the most.
 fn in_range(n: u64, most: u64) -> bool
     ensures { result ≡ in_range most n }
 {
-    1 <= n && n <= most
+    (1..=most).contains(&n)
 }
 
 // How long a lead of this gauge may be at this current, in mA.
-pub fn longest_lead(gauge: u64, ma: u64) -> Longest
+pub fn longest_lead(gauge: u64, ma: u64) -> Result<f64, LeadRefusal>
     ensures { result ≡ longest_of gauge ma }
 {
-    let row = look_up(gauge);
-    let Listing::Listed(resistance) = row else {
-        return Longest::NotListed;
-    };
+    let resistance = look_up(gauge).ok_or(LeadRefusal::NotListed)?;
     if in_range(ma, MOST_MA) {
-        Longest::Metres(quotients::quotient(10_000_000_000, ma * resistance))
+        Ok(quotients::quotient(10_000_000_000, ma * resistance))
     } else {
-        Longest::CurrentOutside
+        Err(LeadRefusal::OutOfRange)
     }
 }
 
@@ -148,53 +133,39 @@ fn within_limit(ma: u64, resistance: u64, mm: u64) -> bool
 }
 
 // Some gauge that suits, for a current and a length within their ranges.
-fn choose(ma: u64, mm: u64) -> Advice
+fn choose(ma: u64, mm: u64) -> Result<u64, LeadRefusal>
     requires { (ma ≤ 150000) × (mm ≤ 1000000) }
     ensures { (result ≡ chosen ma mm (named_of result)) × (Suitable ma mm (named_of result)) }
 {
-    let mut i = 0usize;
-    while i < 8 {
-        let row = row_at(i);
+    for row in &TABLE {
         if within_limit(ma, row.resistance, mm) {
-            return Advice::Gauge(row.gauge);
+            return Ok(row.gauge);
         }
-        i += 1;
     }
-    Advice::NoneSuits
+    Err(LeadRefusal::NoneSuits)
 }
 
 // A gauge for a lead of this length, in mm, at this current, in mA. Which of those that suit is left free.
-pub fn gauge_for(ma: u64, mm: u64) -> Advice
+pub fn gauge_for(ma: u64, mm: u64) -> Result<u64, LeadRefusal>
     ensures { (result ≡ advice_of ma mm (named_of result)) × (Suitable ma mm (named_of result)) }
 {
     if in_range(ma, MOST_MA) && in_range(mm, MOST_MM) {
         choose(ma, mm)
     } else {
-        Advice::Outside
+        Err(LeadRefusal::OutOfRange)
     }
-}
-
-fn no_lead(code: u8) -> LongestLead
-    ensures { result ≡ no_lead code }
-{
-    LongestLead { code, metres: 0.0 }
-}
-
-fn no_gauge(code: u8) -> GaugeFor
-    ensures { result ≡ no_gauge code }
-{
-    GaugeFor { code, gauge: 255 }
 }
 
 // `longest_lead` as numbers.
 pub fn pu_longest_lead(gauge: u64, ma: u64) -> LongestLead
     ensures { result ≡ lead_numbers (longest_of gauge ma) }
 {
-    let answer = longest_lead(gauge, ma);
-    match answer {
-        Longest::Metres(metres) => LongestLead { code: 0, metres },
-        Longest::NotListed => no_lead(9),
-        Longest::CurrentOutside => no_lead(10),
+    match longest_lead(gauge, ma) {
+        Ok(metres) => LongestLead { code: 0, metres },
+        Err(refusal) => LongestLead {
+            code: u8::from(refusal),
+            metres: 0.0,
+        },
     }
 }
 
@@ -202,10 +173,11 @@ pub fn pu_longest_lead(gauge: u64, ma: u64) -> LongestLead
 pub fn pu_gauge_for(ma: u64, mm: u64) -> GaugeFor
     ensures { (result ≡ gauge_numbers (advice_of ma mm result.gauge)) × (Suitable ma mm result.gauge) }
 {
-    let answer = gauge_for(ma, mm);
-    match answer {
-        Advice::Gauge(gauge) => GaugeFor { code: 0, gauge },
-        Advice::Outside => no_gauge(10),
-        Advice::NoneSuits => no_gauge(11),
+    match gauge_for(ma, mm) {
+        Ok(gauge) => GaugeFor { code: 0, gauge },
+        Err(refusal) => GaugeFor {
+            code: u8::from(refusal),
+            gauge: 255,
+        },
     }
 }

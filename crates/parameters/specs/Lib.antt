@@ -1,1 +1,2 @@
 pub mod Parameters
+pub mod Told

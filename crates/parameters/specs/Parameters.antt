@@ -1,12 +1,11 @@
 -- The parameter of a line: absent or empty, malformed, or a value.
 use Rattle.std.specs.Prelude.{ℕ, ◌+◌, ◌-◌, List, Bool, ◌&&◌, leb, ltb, eqb, length, get_or}
 use Rattle.base.specs.Choice.{pick}
-use Rattle.figures.specs.declared.Number.{Number}
+use Rattle.figures.specs.Number.{Number}
 use Rattle.figures.specs.Digits.{all_digits, run_value}
 use Rattle.figures.specs.Number.{read_number, number_is, no_number}
 use Rattle.hexadecimal.specs.Hex.{read_hex}
 use Rattle.supply.specs.State.{c05}
-use Rattle.parameters.specs.declared.Parameter.{Parameter}
 
 -- the error codes that the line alone decides, without a supply; in hexadecimal an error code reads as its name.
 -- C05, which an order can draw too, is defined with the error codes of orders
@@ -21,6 +20,11 @@ c03 = 0xC3
 
 abbrev pub c04 : ℕ
 c04 = 0xC4
+
+-- a parameter as read: error code 0 and its value, or the error code of what is wrong with it and value 0
+pub record Parameter : Type 0 where
+  pub code : ℕ
+  pub value : ℕ
 
 abbrev pub value_is : ℕ → Parameter
 value_is v = record { code = 0; value = v }

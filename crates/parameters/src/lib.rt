@@ -2,133 +2,101 @@
 // The parameter of a line: absent, malformed, or a value of the kind that its word takes.
 #![tactic(auto)]
 
-ghost use Rattle.std.specs.Prelude.{◌≡◌, ◌<◌, ◌≤◌};
-ghost use Rattle.figures.specs.declared.Number.{Number};
-ghost use Rattle.parameters.specs.Parameters.{bare, number, switch, hex, address, read_address, read_switch, needed, parameter_of};
+ghost use Rattle.std.specs.Prelude.{◌≡◌, ◌<◌, ◌≤◌, IfOk};
+ghost use Rattle.figures.specs.Number.{number_in};
+ghost use Rattle.parameters.specs.Parameters.{bare, number, switch, hex, address, read_address, read_switch, parameter_of};
+ghost use Rattle.parameters.specs.Told.{required, parameter_told, bare_told};
 
-use figures::Number;
-use supply::C05;
+use supply::ErrorCode;
 
-// A parameter as read: error code 0 and its value, or the error code of what is wrong with it and value 0.
-#[derive(Drop)]
-pub struct Parameter {
-    pub code: u8,
-    pub value: u64,
-}
-
-const C02: u8 = 0xC2;
-
-const C03: u8 = 0xC3;
+// The last address of a rack.
+const LAST: u8 = 30;
 
 // A required parameter: C02 if it is empty, C03 if it is no number.
-fn need(n: Number, x: &[u8]) -> Parameter
-    ensures { result ≡ needed n x.now }
+fn need<N: Copy>(n: Option<N>, x: &[u8]) -> Result<N, ErrorCode>
+    ensures { result ≡ required n x.now }
 {
-    if x.len() == 0 {
-        return Parameter {
-            code: C02,
-            value: 0,
-        };
-    }
-    if n.good {
-        Parameter {
-            code: 0,
-            value: n.value,
-        }
+    if x.is_empty() {
+        Err(ErrorCode::C02)
     } else {
-        Parameter {
-            code: C03,
-            value: 0,
-        }
+        n.ok_or(ErrorCode::C03)
     }
 }
 
 // One digit from 0 to most.
-fn read_switch(x: &[u8], most: u8) -> Number
-    ensures { (result ≡ read_switch most x.now) × (result.value < 256) }
+fn read_switch(x: &[u8], most: u8) -> Option<u8>
+    ensures { result ≡ number_in (read_switch most x.now) }
 {
-    if x.len() != 1 {
-        return figures::no_number();
+    let [b] = x else {
+        return None;
+    };
+    let digit = b.checked_sub(b'0')?;
+    if most < digit {
+        return None;
     }
-    let b = x[0];
-    if b < 48 {
-        return figures::no_number();
-    }
-    let v = b - 48;
-    if most < v {
-        return figures::no_number();
-    }
-    Number {
-        good: true,
-        value: base::wide(v),
-    }
+    Some(digit)
 }
 
 // At most two digits.
-fn read_address(x: &[u8]) -> Number
-    ensures { result ≡ read_address x.now }
+#[tactic(auto, using(crate::proofs::Bounds::address_lt))]
+fn read_address(x: &[u8]) -> Option<u8>
+    ensures { result ≡ number_in (read_address x.now) }
 {
     let n = x.len();
-    if 2 < n {
-        return figures::no_number();
-    }
-    if figures::all_digits(x) {
-        Number {
-            good: true,
-            value: figures::run_value(x, n),
-        }
+    if n < 3 && figures::all_digits(x) {
+        Some(figures::run_value(x, n) as u8)
     } else {
-        figures::no_number()
+        None
     }
 }
 
 // The parameter of a word that takes none.
-pub fn bare_parameter(x: &[u8]) -> Parameter
-    ensures { result ≡ parameter_of bare x.now }
+#[tactic(auto, unfolding(crate::specs::Parameters::parameter_of))]
+pub fn bare_parameter(x: &[u8]) -> Result<(), ErrorCode>
+    ensures { bare_told result ≡ parameter_of bare x.now }
 {
-    if x.len() == 0 {
-        Parameter { code: 0, value: 0 }
+    if x.is_empty() {
+        Ok(())
     } else {
-        Parameter {
-            code: C03,
-            value: 0,
-        }
+        Err(ErrorCode::C03)
     }
 }
 
 // A required number with k decimals.
-pub fn number_parameter(x: &[u8], k: usize) -> Parameter
+#[tactic(auto, unfolding(crate::specs::Parameters::parameter_of, crate::specs::Parameters::read_as), using(crate::proofs::Bounds::required_told))]
+pub fn number_parameter(x: &[u8], k: usize) -> Result<u64, ErrorCode>
     requires { k ≤ 6 }
-    ensures { result ≡ parameter_of (number k) x.now }
+    ensures { parameter_told result ≡ parameter_of (number k) x.now }
 {
     need(figures::read_number(x, k), x)
 }
 
 // A required digit from 0 to most.
-pub fn switch_parameter(x: &[u8], most: u8) -> Parameter
-    ensures { (result ≡ parameter_of (switch most) x.now) × (result.value < 256) }
+#[tactic(auto, unfolding(crate::specs::Parameters::parameter_of, crate::specs::Parameters::read_as), using(crate::proofs::Bounds::required_told))]
+pub fn switch_parameter(x: &[u8], most: u8) -> Result<u8, ErrorCode>
+    ensures { parameter_told result ≡ parameter_of (switch most) x.now }
 {
     need(read_switch(x, most), x)
 }
 
 // Two hexadecimal digits, required.
-pub fn hex_parameter(x: &[u8]) -> Parameter
-    ensures { (result ≡ parameter_of hex x.now) × (result.value < 256) }
+#[tactic(auto, unfolding(crate::specs::Parameters::parameter_of, crate::specs::Parameters::read_as), using(crate::proofs::Bounds::required_told))]
+pub fn hex_parameter(x: &[u8]) -> Result<u8, ErrorCode>
+    ensures { parameter_told result ≡ parameter_of hex x.now }
 {
     need(hexadecimal::read_hex(x), x)
 }
 
 // A required address; above 30 it draws C05.
-pub fn address_parameter(x: &[u8]) -> Parameter
-    ensures { (result ≡ parameter_of address x.now) × (result.value < 31) }
+#[tactic(auto, unfolding(crate::specs::Parameters::parameter_of, crate::specs::Parameters::read_as), using(crate::proofs::Bounds::address_refused, crate::proofs::Bounds::address_above, crate::proofs::Bounds::address_inside))]
+pub fn address_parameter(x: &[u8]) -> Result<u8, ErrorCode>
+    ensures told { parameter_told result ≡ parameter_of address x.now }
+    ensures inside { IfOk result (λ a. a < 31) }
 {
-    let p = need(read_address(x), x);
-    if 30 < p.value {
-        Parameter {
-            code: C05,
-            value: 0,
-        }
+    let address = need(read_address(x), x)?;
+    if LAST < address {
+        Err(ErrorCode::C05)
     } else {
-        p
+        Ok(address)
     }
 }

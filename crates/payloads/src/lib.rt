@@ -5,7 +5,7 @@
 ghost use Rattle.std.specs.Prelude.{◌≡◌, ◌<◌};
 ghost use Rattle.field.specs.Fields.{pair_at, quad_at, is_sample, values_fit, press_of, turn_of, act_of};
 
-use supply::{Act, Key, Target};
+use supply::{Act, Key, NotListed, Target};
 
 // The two counts of a sample.
 #[derive(Clone, Copy)]
@@ -19,7 +19,7 @@ fn quad_at(s: &[u8], i: usize) -> u32
     requires { i < 65534 }
     ensures { result ≡ quad_at s.now i }
 {
-    (field::pair_at(s, i) as u32) * 65536 + (field::pair_at(s, i + 2) as u32)
+    u32::from(field::pair_at(s, i)) * 65536 + u32::from(field::pair_at(s, i + 2))
 }
 
 // Whether the bytes begin with a complete sample.
@@ -27,10 +27,7 @@ fn quad_at(s: &[u8], i: usize) -> u32
 pub fn is_sample(b: &[u8]) -> bool
     ensures { result ≡ is_sample b.now }
 {
-    if b.len() < 8 {
-        return false;
-    }
-    (field::byte_at(b, 0) == 5) & (field::pair_at(b, 1) == 5)
+    8 <= b.len() && field::byte_at(b, 0) == 5 && field::pair_at(b, 1) == 5
 }
 
 // The counts of the sample with which the bytes begin.
@@ -50,8 +47,8 @@ pub fn values_fit(tag: u8, p: &[u8]) -> bool
 {
     let x = field::byte_at(p, 1);
     match tag {
-        2 => x < 3,
-        3 => x < 4,
+        2 => Key::try_from(x).is_ok(),
+        3 => Target::try_from(x).is_ok(),
         4 => x & 0x59 == 0,
         _ => true,
     }
@@ -62,11 +59,9 @@ pub fn values_fit(tag: u8, p: &[u8]) -> bool
 fn press_of(n: u8) -> Act
     ensures { result ≡ press_of n }
 {
-    match n {
-        0 => Act::Press(Key::Output),
-        1 => Act::Press(Key::Fold),
-        2 => Act::Press(Key::Local),
-        _ => Act::Nothing,
+    match Key::try_from(n) {
+        Ok(key) => Act::Press(key),
+        Err(NotListed) => Act::Nothing,
     }
 }
 
@@ -75,12 +70,9 @@ fn press_of(n: u8) -> Act
 fn turn_of(n: u8, step: u32) -> Act
     ensures { result ≡ turn_of n step }
 {
-    match n {
-        0 => Act::Turn(Target::Pv, step),
-        1 => Act::Turn(Target::Pc, step),
-        2 => Act::Turn(Target::Ovp, step),
-        3 => Act::Turn(Target::Uvl, step),
-        _ => Act::Nothing,
+    match Target::try_from(n) {
+        Ok(target) => Act::Turn(target, step),
+        Err(NotListed) => Act::Nothing,
     }
 }
 

@@ -8,6 +8,7 @@ use native.Mathlib.Numerals.{add-one}
 use native.Mathlib.Nat.{zero-add}
 use native.Mathlib.Omega.{arith}
 use lib.Dec.{ltb}
+use Rattle.std.specs.Prelude.{Option, Some, None}
 use lib.ListN.{length, get_or, set, take, drop}
 use lib.Seq.{take-suc, take-take, take-add, drop-drop, length-take-le}
 use borrow.Author.Tests.{lt-ltb}
@@ -19,6 +20,7 @@ use Rattle.wire.specs.declared.Setup.{Setup}
 use Rattle.wire.specs.Wire.{Sent, byte, accept, fitted, quiet, followed, scan, char_on, byte_on}
 use Rattle.wire.proofs.ForCode.{scan_more}
 use Rattle.supply.specs.declared.Supply.{Supply}
+use Rattle.supply.specs.declared.Order.{Order}
 use Rattle.supply.specs.declared.Order.TheVariants.{Cls}
 use Rattle.supply.specs.State.{fresh}
 use Rattle.field.specs.Fields.{tag_of, length_of, payload_of, header_code}
@@ -34,7 +36,7 @@ use Rattle.slots.proofs.Runs.{moves_then, fair_then}
 use Rattle.slots.proofs.Fairness.{ended_fair}
 use Rattle.chars.specs.Chars.{Typing, CharsTaken, FeedDoes}
 use Rattle.addressed.specs.Pieces.{After, Does, PieceDoes}
-use Rattle.pieces.specs.Lines.{LineDoes}
+use Rattle.pieces.specs.Lines.{for_all, order_told, LineDoes}
 
 pub feed_within : (p : List ℕ) (i r : ℕ) → FeedDoes p i r → i ≤ length p → (i ≤ r) × (r ≤ length p)
 feed_within p i r (inl e) h = (omega (arith, e.0), omega (arith, e.0, h))
@@ -95,21 +97,21 @@ module _ (u : Setup) (l : Line) (s : Supply) (p : List ℕ) (head : ℕ) (b : Li
     module _ (e : Ended) (b' : List ℕ) (z : Sized s) (g : EndsLine u m s e b at b') where
       -- what it leaves, however many bytes it had
       abbrev ended : ℕ → ℕ → After
-      ended used left = record { line = cleared_to m e.selected; supply = e.supply; next = e.next; used = used; left = left; code = 0; all = e.all; order = e.order }
+      ended used left = record { line = cleared_to m e.selected; supply = e.supply; next = e.next; used = used; left = left; code = 0; all = for_all e.order; order = order_told e.order }
 
       end_does : (used left : ℕ) → Does u l s l.selected (map byte (take (j + 1) p)) (j + 1) (ended used left) b at b'
       end_does used left ss k there reach short wide h =
           let t : Typing l p j m = d.typed wide h in
           let here : fitted u m.selected ≡ true → k ≡ m.selected = λ fit. reach (rw t.selects at fit) ∙ sym t.selects in
           record {
-            moves = rw (ends_with t ss) (moves_then (rack_is ss l u) (rack_is ss m u) (quiet (wire_of m)) refl (ends ss) _ b at at b _ b' (typed_moves ss t) (by_all ss k there here short e.all refl));
+            moves = rw (ends_with t ss) (moves_then (rack_is ss l u) (rack_is ss m u) (quiet (wire_of m)) refl (ends ss) _ b at at b _ b' (typed_moves ss t) (by_order ss k there here short e.order refl));
             fair = rw (ends_with t ss) (fair_then (rack_is ss l u) (rack_is ss m u) (quiet (wire_of m)) refl (ends ss) j 1 (typed_fair ss t) (ended_fair (rack_is ss m u) s z (λ fit. let q : k ≡ m.selected = here fit in rw q at there)));
           }
         where
-          by_all : (ss : List Supply) (k : ℕ) → s ≡ get_or ss k (fresh 255) → (fitted u m.selected ≡ true → k ≡ m.selected) → length ss ≤ 31 → (t : Bool) → e.all ≡ t
-              → Moves (rack_is ss m u) (ends ss) (rack_is (pick t (each_to (ordered_at u e.order) 31 ss) (set ss k e.supply)) (cleared_to m e.selected) u) b at e.next b'
-          by_all ss k there here short true q = g.1 q ss short
-          by_all ss k there here short false q = g.0 q ss k there here
+          by_order : (ss : List Supply) (k : ℕ) → s ≡ get_or ss k (fresh 255) → (fitted u m.selected ≡ true → k ≡ m.selected) → length ss ≤ 31 → (o : Option Order) → e.order ≡ o
+              → Moves (rack_is ss m u) (ends ss) (rack_is (pick (for_all o) (each_to (ordered_at u (order_told o)) 31 ss) (set ss k e.supply)) (cleared_to m e.selected) u) b at e.next b'
+          by_order ss k there here short (Some o) q = g.1 o q ss short
+          by_order ss k there here short None q = g.0 q ss k there here
 
       line_does : (i : ℕ) → j < i → i ≤ length p → Does u l s l.selected (map byte (take i p)) i (ended (head + i) (length p - i)) b at b' → LineDoes u l s p head (ended (head + i) (length p - i)) b at b'
       line_does i low high does = record { taken = i; used_is = refl; left_is = omega (arith, high); some = λ h. omega (arith, low); code_is = refl; does = does }

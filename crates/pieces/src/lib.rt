@@ -3,19 +3,18 @@
 // and one supply, not the rack.
 #![tactic(auto)]
 
-ghost use Rattle.std.specs.Prelude.{◌≡◌, true, false, ◌≤◌, ◌<◌, length};
-ghost use Rattle.supply.specs.declared.Order.TheVariants.{Cls};
+ghost use Rattle.std.specs.Prelude.{◌≡◌, true, ◌≤◌, length};
 ghost use Rattle.serial.specs.View.{line_of};
 ghost use Rattle.addressed.specs.Pieces.{is_serial, PieceDoes};
-ghost use Rattle.pieces.specs.Lines.{after_piece, LineDoes};
+ghost use Rattle.pieces.specs.Lines.{after_piece, piece_told, LineDoes};
 
-use slots::Ended;
+use field::Refusal;
 use supply::{Order, Supply};
 use wire::Setup;
 
 // What a piece leaves: how many characters the line keeps, whether it is spoiled and which slot is selected; the supply
 // of the slot that the piece reaches; the index after its reply, how many bytes it used, how many bytes of its field
-// are left, and possibly an order for all. Or the number of a refusal, with everything as it was.
+// are left, and possibly an order for all.
 #[derive(Clone, Copy)]
 pub struct Piece {
     pub count: usize,
@@ -25,57 +24,7 @@ pub struct Piece {
     pub next: usize,
     pub used: usize,
     pub left: usize,
-    pub code: u8,
-    pub all: bool,
-    pub order: Order,
-}
-
-// A piece that says nothing and ends its field; with a code other than 0, a refused one. The order is only a
-// placeholder; nobody reads it.
-fn silent(
-    count: usize,
-    spoiled: bool,
-    selected: u8,
-    s: Supply,
-    at: usize,
-    used: usize,
-    code: u8,
-) -> Piece
-    ensures { result ≡ record { count = count; spoiled = spoiled; selected = selected; supply = s; next = at; used = used; left = 0; code = code; all = false; order = Cls } }
-{
-    let order = Order::Cls;
-    Piece {
-        count,
-        spoiled,
-        selected,
-        supply: s,
-        next: at,
-        used,
-        left: 0,
-        code,
-        all: false,
-        order,
-    }
-}
-
-// The end of a line, as a piece.
-fn line_ended(e: Ended, used: usize, left: usize) -> Piece
-    ensures { result ≡ record { count = 0; spoiled = false; selected = e.selected; supply = e.supply; next = e.next; used = used; left = left; code = 0; all = e.all; order = e.order } }
-{
-    let supply = e.supply;
-    let order = e.order;
-    Piece {
-        count: 0,
-        spoiled: false,
-        selected: e.selected,
-        supply,
-        next: e.next,
-        used,
-        left,
-        code: 0,
-        all: e.all,
-        order,
-    }
+    pub order: Option<Order>,
 }
 
 // Serial bytes up to the end of a line or of their field; `head` bytes come before them.
@@ -100,13 +49,29 @@ fn take_line(
     let n = t.next;
     let size = p.len();
     if n == size {
-        return silent(t.count, t.spoiled, selected, s, at, head + n, 0);
+        return Piece {
+            count: t.count,
+            spoiled: t.spoiled,
+            selected,
+            supply: s,
+            next: at,
+            used: head + n,
+            left: 0,
+            order: None,
+        };
     }
     let taken = chars::past_feed(p, n + 1);
-    let used = head + taken;
-    let left = size - taken;
     let e = slots::end_one(u, kept, t.count, t.spoiled, selected, s, buf, at);
-    line_ended(e, used, left)
+    Piece {
+        count: 0,
+        spoiled: false,
+        selected: e.selected,
+        supply: e.supply,
+        next: e.next,
+        used: head + taken,
+        left: size - taken,
+        order: e.order,
+    }
 }
 
 // Serial bytes of a field with `left` bytes still to come, or of a new field, given the supply of the selected slot.
@@ -121,22 +86,19 @@ pub fn take_serial(
     left: usize,
     buf: &mut [u8],
     at: usize,
-) -> Piece
+) -> Result<Piece, Refusal>
     ensures { (length kept.new ≡ length kept.old)
         × (is_serial b.now left ≡ true → left ≤ length b.now
         → PieceDoes u (line_of kept.old count spoiled selected) s selected b.now left
-        (after_piece kept.new result) buf.old at buf.new) }
+        (piece_told (line_of kept.new count spoiled selected) s at result) buf.old at buf.new) }
 {
     if 0 < left {
         let part = base::part_to(b, left);
-        return take_line(u, kept, count, spoiled, selected, s, part, 0, buf, at);
+        return Ok(take_line(u, kept, count, spoiled, selected, s, part, 0, buf, at));
     }
-    let header = field::read_header(b);
-    if header.code != 0 {
-        return silent(count, spoiled, selected, s, at, 0, header.code);
-    }
+    let header = field::read_header(b)?;
     let part = field::payload(b, header.length);
-    take_line(u, kept, count, spoiled, selected, s, part, 3, buf, at)
+    Ok(take_line(u, kept, count, spoiled, selected, s, part, 3, buf, at))
 }
 
 // Whether the next piece consists of serial bytes.

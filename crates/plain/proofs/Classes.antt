@@ -15,9 +15,9 @@ use Rattle.words.proofs.Table.{find_where}
 use Rattle.wire.specs.Wire.{Class, select, faulty, global, other}
 use Rattle.supply.specs.declared.Act.TheVariants.{Nothing}
 use Rattle.supply.specs.State.{c05}
-use Rattle.parameters.specs.declared.Parameter.{Parameter}
-use Rattle.asks.specs.declared.Asks.{Asks}
-use Rattle.asks.specs.declared.Asks.TheVariants.{Select, BadSelect, Everyone, Nobody, One, Error}
+use Rattle.parameters.specs.Parameters.{Parameter}
+use Rattle.asks.specs.Asks.{Asks}
+use Rattle.asks.specs.Asks.{Select, BadSelect, Everyone, Nobody, One, Error}
 use Rattle.parameters.specs.Parameters.{bare, address, c01, c02, c03, c04, is_empty, needed, within30, read_as, refused_by, parameter_of}
 use Rattle.asks.specs.Words.{OrderWord, set, ovm, out, fld, ast, rmt, fena, sena, cls, rst, kind_of_order}
 use Rattle.asks.specs.Words.{Command, to_one, of_one, to_all, selecting, unknown_word, kind_of, asks_with, fails_with}

@@ -7,8 +7,8 @@ use Rattle.base.specs.Choice.{pick}
 use Rattle.base.proofs.Choice.{pick_keeps}
 use Rattle.words.specs.Words.{upper_all}
 use Rattle.supply.specs.declared.Act.TheVariants.{Nothing}
-use Rattle.asks.specs.declared.Asks.{Asks}
-use Rattle.asks.specs.declared.Asks.TheVariants.{One, Error}
+use Rattle.asks.specs.Asks.{Asks}
+use Rattle.asks.specs.Asks.{One, Error}
 use Rattle.parameters.specs.Parameters.{c01, c04, is_empty}
 use Rattle.asks.specs.Words.{Command, command_of, asked_by}
 use Rattle.asks.specs.Asked.{word_of, parameter_text, asks_of}

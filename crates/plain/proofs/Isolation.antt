@@ -15,8 +15,8 @@ use Rattle.settings.specs.Lawful.{Lawful}
 use Rattle.guarantees.specs.Releases.{Trip, is_set}
 use Rattle.guarantees.proofs.Keeps.{fresh_lawful, performed_lawful}
 use Rattle.guarantees.proofs.Trips.{shut, held, frees}
-use Rattle.asks.specs.declared.Asks.{Asks}
-use Rattle.asks.specs.declared.Asks.TheVariants.{Select, BadSelect, Everyone, Nobody, One, Error}
+use Rattle.asks.specs.Asks.{Asks}
+use Rattle.asks.specs.Asks.{Select, BadSelect, Everyone, Nobody, One, Error}
 use Rattle.command.specs.Lines.{heard_of}
 use Rattle.protocol.specs.Sent.{obeyed}
 use Rattle.field.specs.Fields.{act_of}

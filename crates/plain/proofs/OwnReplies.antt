@@ -5,8 +5,8 @@ use mathlib.Core.List.{List, []}
 use mathlib.Core.Bool.{Bool, true, false, false≢true}
 use Rattle.wire.specs.Wire.{Class, select, faulty, global, other}
 use Rattle.supply.specs.declared.Supply.{Supply}
-use Rattle.asks.specs.declared.Asks.{Asks}
-use Rattle.asks.specs.declared.Asks.TheVariants.{Select, BadSelect, Everyone, Nobody, One, Error}
+use Rattle.asks.specs.Asks.{Asks}
+use Rattle.asks.specs.Asks.{Select, BadSelect, Everyone, Nobody, One, Error}
 use Rattle.protocol.specs.Sent.{replied_to}
 use Rattle.plain.specs.Plain.{class_by}
 

@@ -24,8 +24,8 @@ use Rattle.guarantees.specs.Coherent.{Listed, Coherent, CheckedOrder, Checked}
 use Rattle.guarantees.proofs.Coherent.{fresh_coherent, performed_coherent}
 use Rattle.parameters.specs.Parameters.{parameter_of}
 use Rattle.parameters.proofs.Bounds.{switch_most}
-use Rattle.asks.specs.declared.Asks.{Asks}
-use Rattle.asks.specs.declared.Asks.TheVariants.{Select, BadSelect, Everyone, Nobody, One, Error}
+use Rattle.asks.specs.Asks.{Asks}
+use Rattle.asks.specs.Asks.{Select, BadSelect, Everyone, Nobody, One, Error}
 use Rattle.asks.specs.Words.{OrderWord, set, ovm, out, fld, ast, rmt, fena, sena, cls, rst, Command, to_one, of_one, to_all, selecting, unknown_word, kind_of, kind_of_order, order_with, asks_with, fails_with, asked_by}
 use Rattle.command.specs.Lines.{heard_of}
 use Rattle.protocol.specs.Sent.{obeyed}

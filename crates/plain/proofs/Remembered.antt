@@ -24,8 +24,8 @@ use Rattle.guarantees.proofs.Trips.{trip_set}
 use Rattle.guarantees.proofs.Registers.{seen_only}
 use Rattle.guarantees.proofs.Memory.{memory_after, fresh_unseen, fresh_seen_on}
 use Rattle.parameters.specs.Parameters.{parameter_of}
-use Rattle.asks.specs.declared.Asks.{Asks}
-use Rattle.asks.specs.declared.Asks.TheVariants.{Select, BadSelect, Everyone, Nobody, One, Error}
+use Rattle.asks.specs.Asks.{Asks}
+use Rattle.asks.specs.Asks.{Select, BadSelect, Everyone, Nobody, One, Error}
 use Rattle.asks.specs.Words.{Command, to_one, of_one, to_all, selecting, unknown_word, kind_of, asks_with, fails_with, asked_by}
 use Rattle.command.specs.Lines.{heard_of}
 use Rattle.protocol.specs.Sent.{obeyed}

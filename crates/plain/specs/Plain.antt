@@ -10,8 +10,8 @@ use Rattle.supply.specs.Flt.{on_of}
 use Rattle.supply.specs.Rings.{rings_of}
 use Rattle.acts.specs.Acts.{performed}
 use Rattle.guarantees.specs.Releases.{Trip, is_set, releases}
-use Rattle.asks.specs.declared.Asks.{Asks}
-use Rattle.asks.specs.declared.Asks.TheVariants.{Select, BadSelect, Everyone, Nobody, One, Error}
+use Rattle.asks.specs.Asks.{Asks}
+use Rattle.asks.specs.Asks.{Select, BadSelect, Everyone, Nobody, One, Error}
 use Rattle.command.specs.Lines.{heard_of}
 use Rattle.texts.specs.Texts.{code_text, reply_of}
 use Rattle.protocol.specs.Sent.{obeyed, replied_to}

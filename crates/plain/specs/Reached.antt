@@ -8,8 +8,8 @@ use Rattle.wire.specs.Share.{share_of}
 use Rattle.wire.specs.Rack.{plain}
 use Rattle.supply.specs.declared.Act.TheVariants.{Obey}
 use Rattle.guarantees.specs.Coherent.{Coherent, Checked}
-use Rattle.asks.specs.declared.Asks.{Asks}
-use Rattle.asks.specs.declared.Asks.TheVariants.{Select, BadSelect, Everyone, Nobody, One, Error}
+use Rattle.asks.specs.Asks.{Asks}
+use Rattle.asks.specs.Asks.{Select, BadSelect, Everyone, Nobody, One, Error}
 use Rattle.command.specs.Lines.{heard_of}
 use Rattle.field.specs.Fields.{values_fit, act_of}
 use Rattle.plain.specs.Plain.{grammar, plain_supply}

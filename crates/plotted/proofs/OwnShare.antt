@@ -20,7 +20,8 @@ use Rattle.slots.specs.declared.Rack.{Rack}
 use Rattle.fitting.specs.Fitting.{all_allowed}
 use Rattle.isolation.specs.Demand3.{Run, supply_at}
 use Rattle.isolation.proofs.Isolation.{run_seen, isolated_code}
-use Rattle.resistance.specs.declared.CellAnswer.TheVariants.{Measured, NoSupply}
+use Rattle.std.specs.Prelude.{Ok, Err}
+use Rattle.field.specs.declared.Refusal.TheVariants.{NoSupply}
 use Rattle.resistance.specs.Cells.{cell_of, cell_at}
 use Rattle.resistance.proofs.Answers.{empty, fitted_cell}
 use Rattle.plotted.specs.OwnShare.{OwnShare}
@@ -45,12 +46,12 @@ module _ (u : Setup) (calls : List Call) (r : Rack) (g : Run u calls r) where
           absurd (eqb-false (model_at u a) 255 (not-true _ f) (model_past u a (omega (arith, long, ltb-true 30 a e))))
       go false e = ltb-false 30 a e
 
-  cell_there : (a : ℕ) → fitted u a ≡ true → cell_at r a ≡ Measured (cell_of (model_at u a) (supply_at r a))
+  cell_there : (a : ℕ) → fitted u a ≡ true → cell_at r a ≡ Ok (cell_of (model_at u a) (supply_at r a))
   cell_there a f =
       let there : model_at r.setup a ≡ 255 → ⊥ = rw setup_kept (eqb-false (model_at u a) 255 (not-true _ f)) in
-      sym (fitted_cell r a (low a f) there) ∙ ap (λ (v : Setup). Measured (cell_of (model_at v a) (supply_at r a))) setup_kept
+      sym (fitted_cell r a (low a f) there) ∙ ap (λ (v : Setup). Ok (cell_of (model_at v a) (supply_at r a))) setup_kept
 
-  not_there : (a : ℕ) → fitted u a ≡ false → cell_at r a ≡ NoSupply
+  not_there : (a : ℕ) → fitted u a ≡ false → cell_at r a ≡ Err NoSupply
   not_there a f = sym (empty r a (rw setup_kept (eqb-true (model_at u a) 255 (not-false _ f))))
 
 -- two supplies of one model in the same state have the same cell
@@ -58,8 +59,8 @@ module _ (u : Setup) (calls : List Call) (a : ℕ) (r : Rack) (g : Run u calls r
   same_cells : supply_at r a ≡ supply_at q b → cell_at r a ≡ cell_at q b
   same_cells e =
       cell_there u calls r g a f
-      ∙ ap (λ (n : ℕ). Measured (cell_of n (supply_at r a))) m
-      ∙ ap (λ (s : Supply). Measured (cell_of (model_at v b) s)) e
+      ∙ ap (λ (n : ℕ). Ok (cell_of n (supply_at r a))) m
+      ∙ ap (λ (s : Supply). Ok (cell_of (model_at v b) s)) e
       ∙ sym (cell_there v cs q h b (subst (λ (n : ℕ). not (eqb n 255) ≡ true) m f))
 
 pub own_share : (u : Setup) (calls : List Call) (a : ℕ) → OwnShare u calls a
@@ -69,7 +70,7 @@ own_share u calls a =
       own =
           λ r g f.
           cell_there u calls r g a f
-          ∙ ap (λ (s : Supply). Measured (cell_of (model_at u a) s)) ((isolated_code u calls a f).ends r g);
+          ∙ ap (λ (s : Supply). Ok (cell_of (model_at u a) s)) ((isolated_code u calls a f).ends r g);
       alike =
           λ r g f v cs q b h m e.
           same_cells u calls a r g f v cs b q h m ((isolated_code u calls a f).alike r g v cs q b h m e);

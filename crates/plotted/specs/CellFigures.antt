@@ -1,6 +1,6 @@
 -- EACH ANSWER IN PLAIN TERMS: when it is given, that no float is nearer to the exact quotient than its figures, and the
 -- numbers that it is told as.
-use Rattle.std.specs.Prelude.{ℕ, ◌*◌, ◌≤◌, ◌<◌, ◌≡◌, ◌⊎◌, true, false, Float}
+use Rattle.std.specs.Prelude.{ℕ, ◌*◌, ◌≤◌, ◌<◌, ◌≡◌, ◌⊎◌, Ok, true, false, Float}
 use Rattle.std.specs.Float.{nan}
 use Rattle.quotients.specs.Nearest.{NearestFloat}
 use Rattle.models.specs.Models.{volt_reading, amp_reading}
@@ -12,7 +12,6 @@ use Rattle.isolation.specs.Demand3.{supply_at}
 use Rattle.resistance.specs.declared.Resistance.TheVariants.{Ohms, Open, Off}
 use Rattle.resistance.specs.declared.Metered.{Metered}
 use Rattle.resistance.specs.declared.Cell.{Cell}
-use Rattle.resistance.specs.declared.CellAnswer.TheVariants.{Measured}
 use Rattle.resistance.specs.declared.CellNumbers.{CellNumbers}
 use Rattle.resistance.specs.Cells.{cell_of, cell_at}
 use Rattle.resistance.specs.Numbers.{cell_numbers}
@@ -36,9 +35,9 @@ numbers_are k x v = record { code = 0; kind = k; ohms = x; volts = v.volts; amps
 
 -- the numbers of a cell: its kind, its own figures, and NaN for the ohms that are missing
 pub record AsNumbers (c : Cell) : Type 0 where
-  pub with_ohms : (x : Float) → c.resistance ≡ Ohms x → cell_numbers (Measured c) ≡ numbers_are 0 x c.metered
-  pub with_open : c.resistance ≡ Open → cell_numbers (Measured c) ≡ numbers_are 1 nan c.metered
-  pub with_off : c.resistance ≡ Off → cell_numbers (Measured c) ≡ numbers_are 2 nan c.metered
+  pub with_ohms : (x : Float) → c.resistance ≡ Ohms x → cell_numbers (Ok c) ≡ numbers_are 0 x c.metered
+  pub with_open : c.resistance ≡ Open → cell_numbers (Ok c) ≡ numbers_are 1 nan c.metered
+  pub with_off : c.resistance ≡ Off → cell_numbers (Ok c) ≡ numbers_are 2 nan c.metered
 
 -- refusal 6 exactly where no supply is fitted, with kind 255 and no figure, and the cell of the slot's own supply
 -- everywhere else
@@ -46,4 +45,4 @@ pub record Refusals (r : Rack) (a : ℕ) : Type 0 where
   pub six : (30 < a) ⊎ (model_at r.setup a ≡ 255)
       → cell_numbers (cell_at r a) ≡ record { code = 6; kind = 255; ohms = nan; volts = nan; amps = nan }
   pub none : a ≤ 30 → (model_at r.setup a ≡ 255 → ⊥)
-      → cell_at r a ≡ Measured (cell_of (model_at r.setup a) (supply_at r a))
+      → cell_at r a ≡ Ok (cell_of (model_at r.setup a) (supply_at r a))

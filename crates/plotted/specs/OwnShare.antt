@@ -1,5 +1,5 @@
 -- THE CELL OF AN ADDRESS FOLLOWS FROM ITS OWN SHARE: after any list of calls on a rack that `fit` made.
-use Rattle.std.specs.Prelude.{ℕ, ◌≡◌, true, false, List, map}
+use Rattle.std.specs.Prelude.{ℕ, ◌≡◌, true, false, Ok, Err, List, map}
 use Rattle.wire.specs.declared.Setup.{Setup}
 use Rattle.wire.specs.Wire.{Call, model_at, fitted}
 use Rattle.wire.specs.Share.{share_of}
@@ -8,15 +8,15 @@ use Rattle.plain.specs.Plain.{plain_supply, grammar}
 use Rattle.plain.specs.Unaddressed.{unaddressed}
 use Rattle.slots.specs.declared.Rack.{Rack}
 use Rattle.isolation.specs.Demand3.{Run}
-use Rattle.resistance.specs.declared.CellAnswer.TheVariants.{Measured, NoSupply}
+use Rattle.field.specs.declared.Refusal.TheVariants.{NoSupply}
 use Rattle.resistance.specs.Cells.{cell_of, cell_at}
 
 pub record OwnShare (u : Setup) (calls : List Call) (a : ℕ) : Type 0 where
   -- an address without a supply is refused
-  pub refused : (r : Rack) → Run u calls r → fitted u a ≡ false → cell_at r a ≡ NoSupply
+  pub refused : (r : Rack) → Run u calls r → fitted u a ≡ false → cell_at r a ≡ Err NoSupply
   -- the cell of any other is that of a fresh plain supply after the address's own share
   pub own : (r : Rack) → Run u calls r → fitted u a ≡ true
-      → cell_at r a ≡ Measured (cell_of (model_at u a) (plain plain_supply (model_at u a) (share_of grammar u calls a)))
+      → cell_at r a ≡ Ok (cell_of (model_at u a) (plain plain_supply (model_at u a) (share_of grammar u calls a)))
   -- so equal models and equal shares give equal answers, in any two racks
   pub alike :
       (r : Rack) → Run u calls r → fitted u a ≡ true

@@ -1,5 +1,5 @@
 -- WHAT IS PRINTED IS WHAT IS DIVIDED.
-use Rattle.std.specs.Prelude.{ℕ, ◌^◌, ◌<◌, ◌≡◌, List, [], ◌∷◌, ◌++◌, Bool, false}
+use Rattle.std.specs.Prelude.{ℕ, ◌^◌, ◌<◌, ◌≡◌, Ok, List, [], ◌∷◌, ◌++◌, Bool, false}
 use Prim.Native.String.{String}
 use Rattle.base.specs.Choice.{pick}
 use Rattle.base.specs.Text.{codes}
@@ -10,7 +10,6 @@ use Rattle.wire.specs.Wire.{line, model_at}
 use Rattle.plain.specs.Plain.{reply_to}
 use Rattle.slots.specs.declared.Rack.{Rack}
 use Rattle.isolation.specs.Demand3.{supply_at}
-use Rattle.resistance.specs.declared.CellAnswer.TheVariants.{Measured}
 use Rattle.resistance.specs.Cells.{cell_by, cell_at}
 
 -- both counts fit in their 16 bits, as in every supply of the code; the definitions alone would let a field carry more
@@ -32,4 +31,4 @@ pub record AsPrinted (r : Rack) (a ticks ma : ℕ) (on : Bool) : Type 0 where
   pub out : reply_at r a "OUT?" ≡ pick on (codes "ON\r") (codes "OFF\r")
   pub ticks_read : read_number 4 (figure 4 ticks) ≡ number_is ticks
   pub ma_read : read_number 3 (figure 3 ma) ≡ number_is ma
-  pub divided : cell_at r a ≡ Measured (cell_by on ticks ma)
+  pub divided : cell_at r a ≡ Ok (cell_by on ticks ma)

@@ -1,5 +1,5 @@
 -- WORKED CELLS, by computation.
-use Rattle.std.specs.Prelude.{ℕ, ◌/◌, ◌%◌, ◌≡◌, false, List, [], ◌∷◌, ◌++◌, Float}
+use Rattle.std.specs.Prelude.{ℕ, ◌/◌, ◌%◌, ◌≡◌, Ok, false, List, [], ◌∷◌, ◌++◌, Float}
 use Prim.Native.String.{String}
 use Rattle.std.specs.Float.{binary64}
 use Rattle.std.specs.Float.Ieee.{to_bits}
@@ -8,7 +8,6 @@ use Rattle.supply.specs.declared.Supply.{Supply}
 use Rattle.wire.specs.Wire.{Entry, field, line}
 use Rattle.wire.specs.Rack.{plain}
 use Rattle.plain.specs.Plain.{plain_supply}
-use Rattle.resistance.specs.declared.CellAnswer.TheVariants.{Measured}
 use Rattle.resistance.specs.declared.CellNumbers.{CellNumbers}
 use Rattle.resistance.specs.Cells.{cell_of}
 use Rattle.resistance.specs.Numbers.{cell_numbers}
@@ -26,7 +25,7 @@ unfoldable pub supply_after : ℕ → List Entry → Supply
 supply_after m es = plain plain_supply m es
 
 unfoldable pub cell_after : ℕ → List Entry → CellNumbers
-cell_after m es = cell_numbers (Measured (cell_of m (supply_after m es)))
+cell_after m es = cell_numbers (Ok (cell_of m (supply_after m es)))
 
 -- the 64 bits of a float
 abbrev pub bits_of : Float → ℕ

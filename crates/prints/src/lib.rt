@@ -5,7 +5,7 @@
 ghost use Rattle.base.specs.Put.{Put};
 ghost use Rattle.prints.specs.Figure.{fixed, shortest, figure};
 
-// Places the last n decimal digits of v.
+// Places the last n decimal digits of v. It calls itself: digits are worked out from the last, and placed from the first.
 fn put_fixed(buf: &mut [u8], at: usize, n: usize, v: u64) -> usize
     ensures { Put buf.old at (fixed n v) result buf.new }
 {
@@ -13,7 +13,7 @@ fn put_fixed(buf: &mut [u8], at: usize, n: usize, v: u64) -> usize
         at
     } else {
         let p = put_fixed(buf, at, n - 1, v / 10);
-        base::put_byte(buf, p, (48 + v % 10) as u8)
+        base::put_byte(buf, p, b'0' + (v % 10) as u8)
     }
 }
 
@@ -25,10 +25,10 @@ fn put_shortest(buf: &mut [u8], at: usize, n: usize, v: u64) -> usize
         return at;
     }
     if v < 10 {
-        base::put_byte(buf, at, (48 + v) as u8)
+        base::put_byte(buf, at, b'0' + v as u8)
     } else {
         let p = put_shortest(buf, at, n - 1, v / 10);
-        base::put_byte(buf, p, (48 + v % 10) as u8)
+        base::put_byte(buf, p, b'0' + (v % 10) as u8)
     }
 }
 

@@ -30,8 +30,8 @@ use Rattle.supply.specs.Flt.{on_of}
 use Rattle.settings.specs.Settings.{setting_of}
 use Rattle.acts.specs.Acts.{code_of}
 use Rattle.answers.specs.Answers.{switch_of, mode_word, running, status_of, answer_of}
-use Rattle.asks.specs.declared.Asks.{Asks}
-use Rattle.asks.specs.declared.Asks.TheVariants.{Select, BadSelect, Everyone, Nobody, One, Error}
+use Rattle.asks.specs.Asks.{Asks}
+use Rattle.asks.specs.Asks.{Select, BadSelect, Everyone, Nobody, One, Error}
 use Rattle.parameters.specs.Parameters.{c01, c04, is_empty, parameter_of}
 use Rattle.asks.specs.Words.{Command, to_one, of_one, to_all, selecting, unknown_word, kind_of, asks_with, fails_with}
 use Rattle.asks.specs.Words.{commands, command_of, asked_with, asked_by}

@@ -26,7 +26,7 @@ use Rattle.codes.specs.Codes.{order_code}
 use Rattle.acts.specs.Acts.{code_of, performed}
 use Rattle.answers.specs.Answers.{answer_of}
 use Rattle.guarantees.proofs.Keeps.{admissible_accepted}
-use Rattle.asks.specs.declared.Asks.TheVariants.{One}
+use Rattle.asks.specs.Asks.{One}
 use Rattle.parameters.specs.Parameters.{number, is_empty, read_as, parameter_of}
 use Rattle.asks.specs.Words.{set, to_one, asked_with, asked_by}
 use Rattle.asks.specs.Asked.{asks_of}

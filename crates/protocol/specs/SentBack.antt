@@ -11,7 +11,7 @@ use Rattle.supply.specs.declared.Act.TheVariants.{Obey, Ask}
 use Rattle.settings.specs.Settings.{setting_of}
 use Rattle.settings.specs.Lawful.{Lawful}
 use Rattle.acts.specs.Acts.{code_of, performed}
-use Rattle.asks.specs.declared.Asks.TheVariants.{One}
+use Rattle.asks.specs.Asks.{One}
 use Rattle.command.specs.Lines.{heard_as, heard_of}
 use Rattle.protocol.specs.Sent.{replied_to}
 

@@ -9,7 +9,7 @@ use Rattle.supply.specs.declared.Act.TheVariants.{Obey, Ask}
 use Rattle.supply.specs.State.{fresh}
 use Rattle.answers.specs.Answers.{answer_of}
 use Rattle.texts.specs.Texts.{answer_text}
-use Rattle.asks.specs.declared.Asks.TheVariants.{One}
+use Rattle.asks.specs.Asks.{One}
 use Rattle.command.specs.Lines.{heard_as, heard_of}
 use Rattle.protocol.specs.Sent.{replied_to}
 

@@ -5,8 +5,8 @@ use Rattle.words.specs.Words.{upper_all}
 use Rattle.supply.specs.declared.Supply.{Supply}
 use Rattle.supply.specs.declared.Act.TheVariants.{Nothing}
 use Rattle.supply.specs.State.{c05}
-use Rattle.asks.specs.declared.Asks.{Asks}
-use Rattle.asks.specs.declared.Asks.TheVariants.{Select, BadSelect, Everyone, Nobody, One, Error}
+use Rattle.asks.specs.Asks.{Asks}
+use Rattle.asks.specs.Asks.{Select, BadSelect, Everyone, Nobody, One, Error}
 use Rattle.parameters.specs.Parameters.{Kind, bare, number, switch, hex, address, unknown, c01, c02, c03, c04, read_as, is_empty}
 use Rattle.asks.specs.Words.{Command, kind_of, fails_with, command_of}
 use Rattle.asks.specs.Asked.{word_of, parameter_text}

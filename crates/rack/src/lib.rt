@@ -3,6 +3,7 @@
 // field, and `cell_at` tells the resistance of the cell at an address.
 #![tactic(auto)]
 
-pub use calls::{Answer, call};
-pub use fitting::{Fitted, fit};
-pub use resistance::{Cell, CellAnswer, Metered, Resistance, cell_at};
+pub use calls::{Called, call};
+pub use field::Refusal;
+pub use fitting::{Fitted, empty_rack, fit};
+pub use resistance::{Cell, Metered, Resistance, cell_at};

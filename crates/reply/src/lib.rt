@@ -4,11 +4,12 @@
 
 ghost use Rattle.std.specs.Prelude.{◌≡◌};
 ghost use Rattle.base.specs.Put.{Put};
+ghost use Rattle.supply.specs.ErrorCodes.{code_told, supply_left};
 ghost use Rattle.acts.specs.Acts.{code_of, performed};
 ghost use Rattle.texts.specs.Texts.{code_text, reply_of};
 ghost use Rattle.reply.specs.Obeying.{said_of};
 
-use supply::{Act, Order, Outcome, Query, Supply};
+use supply::{Act, ErrorCode, Query, Supply};
 
 // The supply after a line, and the index after its reply.
 #[derive(Drop)]
@@ -17,16 +18,21 @@ pub struct Obeyed {
     pub next: usize,
 }
 
-// Replies to what was done: OK or an error code.
-fn say_code(done: Outcome, checksummed: bool, buf: &mut [u8], at: usize) -> Obeyed
-    ensures does { result.supply ≡ done.supply }
-    ensures says { Put buf.old at (reply_of checksummed (code_text done.code))
+// Replies to what came of an act of s: OK or an error code. A refusal leaves s as it was.
+fn say_code(
+    s: Supply,
+    done: Result<Supply, ErrorCode>,
+    checksummed: bool,
+    buf: &mut [u8],
+    at: usize,
+) -> Obeyed
+    ensures does { result.supply ≡ supply_left s done }
+    ensures says { Put buf.old at (reply_of checksummed (code_text (code_told done)))
         result.next buf.new }
 {
-    let next = texts::put_code_reply(buf, at, done.code, checksummed);
-    let after = done.supply;
+    let next = texts::put_told_reply(buf, at, done.map(|_| ()), checksummed);
     Obeyed {
-        supply: after,
+        supply: done.unwrap_or(s),
         next,
     }
 }
@@ -37,32 +43,11 @@ fn ask(model: u8, s: Supply, q: Query, checksummed: bool, buf: &mut [u8], at: us
     ensures says { Put buf.old at (reply_of checksummed (said_of model s (Act.Ask q)))
         result.next buf.new }
 {
-    let after = acts::asked(model, s, q);
     let next = texts::put_answer_reply(buf, at, answers::answer_to(model, s, q), checksummed);
     Obeyed {
-        supply: after,
+        supply: acts::asked(model, s, q),
         next,
     }
-}
-
-// The supply checks an order and carries it out if it accepts it; the reply is OK or an error code.
-fn order(model: u8, s: Supply, o: Order, checksummed: bool, buf: &mut [u8], at: usize) -> Obeyed
-    ensures does { result.supply ≡ performed model s (Act.Obey o) }
-    ensures says { Put buf.old at (reply_of checksummed (said_of model s (Act.Obey o)))
-        result.next buf.new }
-{
-    let done = acts::obey_order(model, s, o);
-    say_code(done, checksummed, buf, at)
-}
-
-// Any other act is performed; the reply is OK or an error code.
-fn other(model: u8, s: Supply, a: Act, checksummed: bool, buf: &mut [u8], at: usize) -> Obeyed
-    ensures does { result.supply ≡ performed model s a }
-    ensures says { Put buf.old at (reply_of checksummed (code_text (code_of model s a)))
-        result.next buf.new }
-{
-    let done = acts::perform(model, s, a);
-    say_code(done, checksummed, buf, at)
 }
 
 // A supply performs an act of a line and replies. Most lines are queries and orders, and these go straight to
@@ -74,11 +59,7 @@ pub fn obey(model: u8, s: Supply, a: Act, checksummed: bool, buf: &mut [u8], at:
 {
     match a {
         Act::Ask(q) => ask(model, s, q, checksummed, buf, at),
-        Act::Obey(o) => order(model, s, o, checksummed, buf, at),
-        Act::Lines(_) => other(model, s, a, checksummed, buf, at),
-        Act::Sample(_, _) => other(model, s, a, checksummed, buf, at),
-        Act::Press(_) => other(model, s, a, checksummed, buf, at),
-        Act::Turn(_, _) => other(model, s, a, checksummed, buf, at),
-        Act::Nothing => other(model, s, a, checksummed, buf, at),
+        Act::Obey(o) => say_code(s, acts::obey_order(model, s, o), checksummed, buf, at),
+        _ => say_code(s, acts::perform(model, s, a), checksummed, buf, at),
     }
 }

@@ -1,5 +1,5 @@
 -- CELLS: the resistance of the cell that a supply feeds, and the volts and amperes beside it.
-use Rattle.std.specs.Prelude.{Bool, not, ◌||◌, ℕ, ◌*◌, eqb, ltb, get_or}
+use Rattle.std.specs.Prelude.{Result, Ok, Err, Bool, not, ◌||◌, ℕ, ◌*◌, eqb, ltb, get_or}
 use Rattle.base.specs.Choice.{pick}
 use Rattle.quotients.specs.Quotient.{rounded}
 use Rattle.models.specs.Models.{volt_reading, amp_reading}
@@ -12,8 +12,8 @@ use Rattle.resistance.specs.declared.Resistance.{Resistance}
 use Rattle.resistance.specs.declared.Resistance.TheVariants.{Ohms, Open, Off}
 use Rattle.resistance.specs.declared.Metered.{Metered}
 use Rattle.resistance.specs.declared.Cell.{Cell}
-use Rattle.resistance.specs.declared.CellAnswer.{CellAnswer}
-use Rattle.resistance.specs.declared.CellAnswer.TheVariants.{Measured, NoSupply}
+use Rattle.field.specs.declared.Refusal.{Refusal}
+use Rattle.field.specs.declared.Refusal.TheVariants.{NoSupply}
 
 -- Off comes first, and a reading of 0 mA is open; otherwise it is ticks over ten times the mA, rounded once: a volt has
 -- ten times as many ticks as an ampere has mA
@@ -37,5 +37,5 @@ abbrev pub unfitted : Rack → ℕ → Bool
 unfitted r a = ltb 30 a || not (fitted r.setup a)
 
 -- THE CELL AT AN ADDRESS
-unfoldable pub cell_at : Rack → ℕ → CellAnswer
-cell_at r a = pick (unfitted r a) NoSupply (Measured (cell_of (model_at r.setup a) (get_or r.slots a (fresh 255))))
+unfoldable pub cell_at : Rack → ℕ → Result Cell Refusal
+cell_at r a = pick (unfitted r a) (Err NoSupply) (Ok (cell_of (model_at r.setup a) (get_or r.slots a (fresh 255))))

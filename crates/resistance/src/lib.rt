@@ -5,8 +5,9 @@
 
 ghost use Rattle.std.specs.Prelude.{◌≡◌, ◌<◌, ◌^◌};
 ghost use Rattle.resistance.specs.Cells.{resistance_of, cell_by, cell_of, cell_at};
-ghost use Rattle.resistance.specs.Numbers.{no_figure, kind_of, ohms_of, cell_numbers};
+ghost use Rattle.resistance.specs.Numbers.{no_figure, kind_of, ohms_of, refused_numbers, cell_numbers};
 
+use field::Refusal;
 use slots::Rack;
 use supply::Supply;
 
@@ -30,13 +31,6 @@ pub struct Metered {
 pub struct Cell {
     pub resistance: Resistance,
     pub metered: Metered,
-}
-
-// The cell at an address; or refusal 6, where no supply is fitted.
-#[derive(Clone, Copy)]
-pub enum CellAnswer {
-    Measured(Cell),
-    NoSupply,
 }
 
 // A cell as numbers: code 0, the kind of its resistance (0 ohms, 1 open, 2 off) and its figures; or code 6, kind 255
@@ -86,22 +80,20 @@ fn cell_of(model: u8, s: Supply) -> Cell
     ensures { result ≡ cell_of model s }
 {
     let read = models::readings_of(model, s.volt_count, s.amp_count);
-    cell_by(supply::is_on(s), read.volts, read.amps)
+    cell_by(s.is_on(), read.volts, read.amps)
 }
 
-// The cell at an address.
-pub fn cell_at(r: Rack, address: u64) -> CellAnswer
+// The cell at an address; or refusal 6, where no supply is fitted.
+pub fn cell_at(r: Rack, address: u64) -> Result<Cell, Refusal>
     ensures { result ≡ cell_at r address }
 {
     if 30 < address {
-        return CellAnswer::NoSupply;
+        return Err(Refusal::NoSupply);
     }
-    let model = serial::model_at(r.setup, address as u8);
-    if model == 255 {
-        return CellAnswer::NoSupply;
-    }
-    let slots = r.slots;
-    CellAnswer::Measured(cell_of(model, slots[address as usize]))
+    let Some(model) = serial::model_at(r.setup, address as u8) else {
+        return Err(Refusal::NoSupply);
+    };
+    Ok(cell_of(model, r.slots[address as usize]))
 }
 
 // What stands for a missing figure.
@@ -131,26 +123,31 @@ fn ohms_of(r: Resistance) -> f64
     }
 }
 
+// A refusal as numbers: its code, kind 255 and no figures.
+fn refused_numbers(refusal: Refusal) -> CellNumbers
+    ensures { result ≡ refused_numbers refusal }
+{
+    CellNumbers {
+        code: u8::from(refusal),
+        kind: 255,
+        ohms: no_figure(),
+        volts: no_figure(),
+        amps: no_figure(),
+    }
+}
+
 // The cell at an address as numbers.
 pub fn cell_numbers(r: Rack, address: u64) -> CellNumbers
     ensures { result ≡ cell_numbers (cell_at r address) }
 {
-    let answer = cell_at(r, address);
-    let CellAnswer::Measured(cell) = answer else {
-        return CellNumbers {
-            code: 6,
-            kind: 255,
-            ohms: no_figure(),
-            volts: no_figure(),
-            amps: no_figure(),
-        };
-    };
-    let resistance = cell.resistance;
-    CellNumbers {
-        code: 0,
-        kind: kind_of(resistance),
-        ohms: ohms_of(resistance),
-        volts: cell.metered.volts,
-        amps: cell.metered.amps,
+    match cell_at(r, address) {
+        Ok(cell) => CellNumbers {
+            code: 0,
+            kind: kind_of(cell.resistance),
+            ohms: ohms_of(cell.resistance),
+            volts: cell.metered.volts,
+            amps: cell.metered.amps,
+        },
+        Err(refusal) => refused_numbers(refusal),
     }
 }

@@ -13,16 +13,21 @@ use supply::Supply;
 pub fn sampled_at(model: u8, s: Supply, v: u16, a: u16) -> Supply
     ensures { result ≡ sampled model s v a }
 {
-    let mut t = s;
-    t.volt_count = v;
-    t.amp_count = a;
-    if supply::is_on(s) {
-        let read = models::readings_of(model, v, a);
-        let over = (s.ovp as u64) <= read.volts;
-        let limited = supply::reaches_pc(s, read.amps);
-        t.ovp_trip = over | s.ovp_trip;
-        t.fold_trip = (!over & (limited & (s.armed & s.cv_seen))) | s.fold_trip;
-        t.cv_seen = (!over & !limited) | s.cv_seen;
+    let counted = Supply {
+        volt_count: v,
+        amp_count: a,
+        ..s
+    };
+    if !s.is_on() {
+        return counted;
     }
-    t
+    let read = models::readings_of(model, v, a);
+    let over = u64::from(s.ovp) <= read.volts;
+    let limited = s.reaches_pc(read.amps);
+    Supply {
+        ovp_trip: over || s.ovp_trip,
+        fold_trip: (!over && limited && s.armed && s.cv_seen) || s.fold_trip,
+        cv_seen: (!over && !limited) || s.cv_seen,
+        ..counted
+    }
 }

@@ -1,6 +1,8 @@
 -- The code's line, seen through the definitions of the shared line.
-use Rattle.std.specs.Prelude.{ℕ, ◌≤◌, ◌≡◌, List, Bool, length, take}
-use Rattle.wire.specs.Wire.{Wire, char_on}
+use Rattle.std.specs.Prelude.{ℕ, ◌≤◌, ◌≡◌, List, Bool, eqb, length, take, Option, Some, None}
+use Rattle.base.specs.Choice.{pick}
+use Rattle.wire.specs.declared.Setup.{Setup}
+use Rattle.wire.specs.Wire.{Wire, char_on, model_at}
 use Rattle.serial.specs.declared.Line.{Line}
 use Rattle.serial.specs.declared.Counted.{Counted}
 
@@ -28,3 +30,10 @@ pub record CharDoes (kept : List ℕ) (count : ℕ) (spoiled : Bool) (b : ℕ) (
   pub typed :
       length kept ≡ 64 → (selected : ℕ) → Short (line_of kept count spoiled selected)
       → CharTaken (line_of kept count spoiled selected) b (line_of kept' r.count r.spoiled selected)
+
+-- a model as the setup numbers it, where 255 is an empty slot; and the model of the supply at an address, if there is one
+abbrev pub model_in : ℕ → Option ℕ
+model_in m = pick (eqb m 255) None (Some m)
+
+abbrev pub fitted_model : Setup → ℕ → Option ℕ
+fitted_model u a = model_in (model_at u a)

@@ -3,14 +3,16 @@
 #![tactic(auto)]
 
 ghost use Rattle.std.specs.Prelude.{◌≡◌, take};
-ghost use Rattle.wire.specs.Wire.{fresh_wire, model_at, fitted};
+ghost use Rattle.wire.specs.Wire.{fresh_wire, fitted};
 ghost use Rattle.command.specs.Lines.{heard_of};
-ghost use Rattle.serial.specs.View.{wire_of, Short, CharDoes};
+ghost use Rattle.command.specs.Told.{heard_told};
+ghost use Rattle.serial.specs.View.{fitted_model, wire_of, Short, CharDoes};
 
 use command::Heard;
 use wire::Setup;
 
-// The line: the kept characters and their count, whether it is spoiled, and the selected slot, or 31 for nobody.
+// The line: the kept characters and their count, whether it is spoiled, and the selected slot or NOBODY.
+// It is laid out for C, so the count stands beside the array.
 #[repr(C)]
 #[derive(Clone, Copy)]
 pub struct Line {
@@ -20,6 +22,16 @@ pub struct Line {
     pub selected: u8,
 }
 
+// Where nobody is selected: no slot has this number.
+pub const NOBODY: u8 = 31;
+
+// The model number of a slot without a supply.
+const EMPTY: u8 = 255;
+
+const BACKSPACE: u8 = 8;
+
+const LINE_FEED: u8 = 10;
+
 // Nothing kept, nobody selected.
 pub fn fresh_line() -> Line
     ensures { (wire_of result ≡ fresh_wire) × (Short result) }
@@ -28,7 +40,7 @@ pub fn fresh_line() -> Line
         kept: [0; 64],
         count: 0,
         spoiled: false,
-        selected: 31,
+        selected: NOBODY,
     }
 }
 
@@ -39,54 +51,51 @@ pub struct Counted {
     pub spoiled: bool,
 }
 
-// Takes a serial byte other than CR.
+// Takes a serial byte other than CR. It gets the line in parts, which its callers hold as values of their own
+// (docs/DECISIONS.md, 108).
 pub fn take_char(kept: &mut [u8; 64], count: usize, spoiled: bool, b: u8) -> Counted
     ensures { CharDoes kept.old count spoiled b kept.new result }
 {
-    if b == 10 {
-        return Counted { count, spoiled };
-    }
-    if b == 8 {
-        if 0 < count {
-            return Counted {
-                count: count - 1,
-                spoiled,
-            };
-        }
-        return Counted { count, spoiled };
-    }
-    if count < 64 {
-        kept[count] = b;
-        return Counted {
-            count: count + 1,
+    match b {
+        LINE_FEED => Counted { count, spoiled },
+        BACKSPACE => Counted {
+            count: count.saturating_sub(1),
             spoiled,
-        };
-    }
-    Counted {
-        count,
-        spoiled: true,
+        },
+        _ if count < 64 => {
+            kept[count] = b;
+            Counted {
+                count: count + 1,
+                spoiled,
+            }
+        }
+        _ => Counted {
+            count,
+            spoiled: true,
+        },
     }
 }
 
-// What the line asks at its CR.
+// What the line asks at its CR; it is in parts here too.
 pub fn hear(kept: &[u8; 64], count: usize, spoiled: bool) -> Heard
-    ensures { result ≡ heard_of (take count kept.now) spoiled }
+    ensures { heard_told result ≡ heard_of (take count kept.now) spoiled }
 {
     command::read_line(base::part_to(kept, count), spoiled)
 }
 
-// The model at an address, or 255 if there is no supply.
-pub fn model_at(u: Setup, a: u8) -> u8
-    ensures { result ≡ model_at u a }
+// The model of the supply at an address, if there is one.
+pub fn model_at(u: Setup, a: u8) -> Option<u8>
+    ensures { result ≡ fitted_model u a }
 {
-    let models = u.models;
-    let i = a as usize;
-    if i < 31 { models[i] } else { 255 }
+    u.models
+        .get(usize::from(a))
+        .copied()
+        .filter(|model| *model != EMPTY)
 }
 
 // Whether there is a supply at the address.
 pub fn has_supply(u: Setup, a: u8) -> bool
     ensures { result ≡ fitted u a }
 {
-    model_at(u, a) != 255
+    model_at(u, a).is_some()
 }

@@ -1,7 +1,7 @@
 -- A line at its CR, for the line and one supply: what holds in one rack holds whatever the other slots are.
 use Prim.Native.Nat.{ℕ}
 use mathlib.Core.Path.{◌≡◌, refl, sym, ap, ◌∙◌}
-use mathlib.Core.Bool.{Bool, true, false, true≢false}
+use mathlib.Core.Bool.{Bool, true, false}
 use mathlib.Core.List.{List, []}
 use native.Mathlib.Omega.{arith}
 use lib.ListN.{get_or, set, take}
@@ -10,14 +10,14 @@ use Rattle.base.specs.Lists.{each_to}
 use Rattle.base.specs.Put.{Put}
 use Rattle.wire.specs.declared.Setup.{Setup}
 use Rattle.wire.specs.Wire.{Class, model_at, fitted, nobody, select, faulty, other, by_class}
+use Rattle.std.specs.Prelude.{Some, None}
 use Rattle.supply.specs.declared.Supply.{Supply}
 use Rattle.supply.specs.declared.Order.{Order}
-use Rattle.supply.specs.declared.Order.TheVariants.{Cls}
 use Rattle.supply.specs.declared.Act.{Act}
 use Rattle.supply.specs.State.{fresh}
 use Rattle.acts.specs.Acts.{performed}
-use Rattle.command.specs.declared.Heard.{Heard}
-use Rattle.asks.specs.declared.Asks.TheVariants.{Everyone, One, Error}
+use Rattle.command.specs.Lines.{Heard}
+use Rattle.asks.specs.Asks.{Everyone, One, Error}
 use Rattle.command.specs.Lines.{heard_as, heard_of}
 use Rattle.texts.specs.Texts.{code_text, reply_of}
 use Rattle.reply.specs.Obeying.{said_of}
@@ -29,8 +29,11 @@ use Rattle.slots.specs.declared.Ended.{Ended}
 use Rattle.slots.specs.View.{rack_is, Moves, cleared_to, EndsByClass, Asked, EndsLine}
 use Rattle.slots.proofs.Steps.{Cleared, told, select_fitted, select_empty, code_fitted, code_empty, asked, asked_nobody, in_error, unheard, heard_is}
 
+some_same : {o p : Order} → Some o ≡ Some p → o ≡ p
+some_same e = cc
+
 abbrev pub ended_as : ℕ → Supply → ℕ → Ended
-ended_as a s n = record { selected = a; supply = s; next = n; all = false; order = Cls }
+ended_as a s n = record { selected = a; supply = s; next = n; order = None }
 
 module _ (u : Setup) (l : Line) (s : Supply) (b : List ℕ) (at : ℕ) where
   cleared_to_lem : (a : ℕ) → Cleared (cleared_to l a) a
@@ -82,17 +85,17 @@ module _ (u : Setup) (l : Line) (s : Supply) (b : List ℕ) (at : ℕ) where
 
   -- by what was heard
   module _ (h : Heard) (is : h ≡ heard_of (take l.count l.kept) l.spoiled) where
-    pub by_class_lem : (e : Ended) (b' : List ℕ) → e.all ≡ false → EndsByClass u l s (class_by h.asks h.checksummed) e b at b' → EndsLine u l s e b at b'
+    pub by_class_lem : (e : Ended) (b' : List ℕ) → e.order ≡ None → EndsByClass u l s (class_by h.asks h.checksummed) e b at b' → EndsLine u l s e b at b'
     unfolding class_of
-    by_class_lem e b' n m = (λ q. rw (← is) m, λ q. absurd (true≢false (sym q ∙ n)))
+    by_class_lem e b' n m = (λ q. rw (← is) m, λ o q. absurd (let other : Some o ≡ None = sym q ∙ n in cc))
 
-    pub in_error_ends : (c : ℕ) (e : Ended) (b' : List ℕ) → h.asks ≡ Error c → e.all ≡ false → EndsByClass u l s (faulty (reply_of h.checksummed (code_text c))) e b at b' → EndsLine u l s e b at b'
+    pub in_error_ends : (c : ℕ) (e : Ended) (b' : List ℕ) → h.asks ≡ Error c → e.order ≡ None → EndsByClass u l s (faulty (reply_of h.checksummed (code_text c))) e b at b' → EndsLine u l s e b at b'
     in_error_ends c e b' q n m = by_class_lem e b' n (rw q (ends_error c h.checksummed e b' (sym is ∙ heard_is h (Error c) q) m))
 
-    pub one_ends : (a : Act) (e : Ended) (b' : List ℕ) → h.asks ≡ One a → e.all ≡ false → Asked u l s a h.checksummed e b at b' → EndsLine u l s e b at b'
+    pub one_ends : (a : Act) (e : Ended) (b' : List ℕ) → h.asks ≡ One a → e.order ≡ None → Asked u l s a h.checksummed e b at b' → EndsLine u l s e b at b'
     one_ends a e b' q n m = by_class_lem e b' n (rw q (m (sym is ∙ heard_is h (One a) q)))
 
-    pub all_ends : (o : Order) → h.asks ≡ Everyone o → EndsLine u l s (record { selected = l.selected; supply = s; next = at; all = true; order = o }) b at b
+    pub all_ends : (o : Order) → h.asks ≡ Everyone o → EndsLine u l s (record { selected = l.selected; supply = s; next = at; order = Some o }) b at b
     unfolding class_of
     all_ends o q =
-        (λ n. absurd (true≢false n), λ n ss k. rw (← is, q) (told (rack_is ss l u) b at o (each_to (ordered_at u o) 31 ss) (cleared_to l l.selected) k refl (cleared_to_lem l.selected) (ap (λ (x : Heard). x.asks) (sym is) ∙ q)))
+        (λ n. absurd (let other : Some o ≡ None = n in cc), λ p n ss k. let same : o ≡ p = some_same n in rw (← is, q, ← same) (told (rack_is ss l u) b at o (each_to (ordered_at u o) 31 ss) (cleared_to l l.selected) k refl (cleared_to_lem l.selected) (ap (λ (x : Heard). x.asks) (sym is) ∙ q)))

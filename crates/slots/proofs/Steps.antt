@@ -18,9 +18,9 @@ use Rattle.supply.specs.declared.Order.{Order}
 use Rattle.supply.specs.declared.Act.{Act}
 use Rattle.supply.specs.State.{fresh}
 use Rattle.acts.specs.Acts.{performed}
-use Rattle.asks.specs.declared.Asks.{Asks}
-use Rattle.asks.specs.declared.Asks.TheVariants.{Everyone, One, Error}
-use Rattle.command.specs.declared.Heard.{Heard}
+use Rattle.asks.specs.Asks.{Asks}
+use Rattle.asks.specs.Asks.{Everyone, One, Error}
+use Rattle.command.specs.Lines.{Heard}
 use Rattle.command.specs.Lines.{heard_as, heard_of}
 use Rattle.texts.specs.Texts.{code_text, reply_of}
 use Rattle.reply.specs.Obeying.{said_of}

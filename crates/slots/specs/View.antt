@@ -1,5 +1,5 @@
 -- The rack of the code, seen through the definitions, and what one step of a call leaves and says.
-use Rattle.std.specs.Prelude.{ℕ, ◌+◌, ◌*◌, ◌≤◌, min, ◌≡◌, List, Bool, true, false, length, get_or, set, take}
+use Rattle.std.specs.Prelude.{ℕ, ◌+◌, ◌*◌, ◌≤◌, min, ◌≡◌, List, Bool, true, false, Some, None, length, get_or, set, take}
 use Rattle.base.specs.Choice.{bit}
 use Rattle.base.specs.Lists.{each_to}
 use Rattle.base.specs.Put.{Put}
@@ -8,9 +8,10 @@ use Rattle.wire.specs.Wire.{Wire, Sent, Class, fitted, by_class, other}
 use Rattle.wire.specs.Rack.{replies, moved}
 use Rattle.wire.specs.Rack as wire
 use Rattle.supply.specs.declared.Supply.{Supply}
+use Rattle.supply.specs.declared.Order.{Order}
 use Rattle.supply.specs.declared.Act.{Act}
 use Rattle.supply.specs.State.{fresh}
-use Rattle.asks.specs.declared.Asks.TheVariants.{One}
+use Rattle.asks.specs.Asks.{One}
 use Rattle.command.specs.Lines.{heard_as, heard_of}
 use Rattle.globals.specs.Globals.{ordered_at}
 use Rattle.protocol.specs.SentBack.{rate, longest}
@@ -58,17 +59,17 @@ Asked u l s a checksummed e b at b' =
     → EndsByClass u l s other e b at b'
 
 -- what a line for all leaves and says, in any rack: every fitted supply takes the order
-abbrev pub EndsAll : Setup → Line → Class → Ended → List ℕ → ℕ → List ℕ → Type 0
-EndsAll u l c e b at b' =
+abbrev pub EndsAll : Setup → Line → Class → Order → Ended → List ℕ → ℕ → List ℕ → Type 0
+EndsAll u l c o e b at b' =
     (ss : List Supply) → length ss ≤ 31
     → Moves (rack_is ss l u) (by_class u (wire_of l) c)
-    (rack_is (each_to (ordered_at u e.order) 31 ss) (cleared_to l e.selected) u) b at e.next b'
+    (rack_is (each_to (ordered_at u o) 31 ss) (cleared_to l e.selected) u) b at e.next b'
 
 -- a line at its CR: what its class leaves and says, whether it is for one supply or for all
 abbrev pub EndsLine : Setup → Line → Supply → Ended → List ℕ → ℕ → List ℕ → Type 0
 EndsLine u l s e b at b' =
-    (e.all ≡ false → EndsByClass u l s (class_of (take l.count l.kept) l.spoiled) e b at b')
-    × (e.all ≡ true → EndsAll u l (class_of (take l.count l.kept) l.spoiled) e b at b')
+    (e.order ≡ None → EndsByClass u l s (class_of (take l.count l.kept) l.spoiled) e b at b')
+    × ((o : Order) → e.order ≡ Some o → EndsAll u l (class_of (take l.count l.kept) l.spoiled) o e b at b')
 
 -- what the line of the rack hands out at its CR
 abbrev pub ended_by : Rack → Sent

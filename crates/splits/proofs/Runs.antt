@@ -18,6 +18,7 @@ use Rattle.isolation.specs.Demand3.{Leads, Run}
 use Rattle.isolation.proofs.Isolation.{run_seen}
 use Rattle.isolation.proofs.Existence.{packed, view_is, answer_as, through}
 use Rattle.engine.specs.declared.Worked.{Worked}
+use Rattle.field.specs.Refusals.{refusal_code}
 use Rattle.engine.specs.Engine.{field_at, Ran, ran, after_field, fields_from, fields_on, calls_after, calls_from, calls_on, full_at, WorkDoes}
 
 run_more : (v : wire.Rack Supply) (cs : List Call) (c : Call) → run_from plain_supply v (cs ++ c ∷ []) ≡ after plain_supply (run_from plain_supply v cs) (call_of plain_supply (run_from plain_supply v cs) c)
@@ -95,4 +96,4 @@ cycle_run u calls r g stop s q used said n e =
 
 pub work_run : (u : Setup) (calls : List Call) (r : Rack) → Run u calls r → (s b : List ℕ) (full ending : ℕ) (w : Worked) (b' : List ℕ) → WorkDoes r s b full ending w b'
     → Reached u (calls ++ calls_on (full_at full) (view_of r) s) (view_of w.rack)
-work_run u calls r g s b full ending w b' d = cycle_run u calls r g (full_at full) s (view_of w.rack) w.used d.said w.code d.is
+work_run u calls r g s b full ending w b' d = cycle_run u calls r g (full_at full) s (view_of w.rack) w.used d.said (refusal_code w.refusal) d.is

@@ -3,3 +3,4 @@ pub mod Shut
 pub mod Gains
 pub mod StatBits
 pub mod Rings
+pub mod ErrorCodes

@@ -1,7 +1,9 @@
 pub mod With
 pub mod State
+pub mod ErrorCodes
 pub mod Flt
 pub mod Memory
 pub mod Stat
 pub mod Registers
 pub mod Rings
+pub mod Numbered

@@ -4,14 +4,18 @@
 #![tactic(auto)]
 
 ghost use Rattle.std.specs.Prelude.{◌≡◌, leb};
+ghost use Rattle.base.specs.Choice.{pick};
 ghost use Rattle.supply.specs.State.{fresh};
+ghost use Rattle.supply.specs.ErrorCodes.{code_byte};
+ghost use Rattle.supply.specs.Numbered.{key_numbered, target_numbered};
 ghost use Rattle.supply.specs.Flt.{flt_of, on_of, lines_clear, in_limit};
 ghost use Rattle.supply.specs.Stat.{stat_of};
 ghost use Rattle.supply.specs.Memory.{cv_forgotten};
 ghost use Rattle.supply.specs.Registers.{feve_gained, seve_gained, settled};
 
 // The whole state of a supply. Figures are in ticks of 0.1 mV and in mA; mode is 0 local, 1 remote, 2 locked out.
-// cv_seen is the CV memory: whether a sample was judged CV since the output came on.
+// cv_seen is the CV memory: whether a sample was judged CV since the output came on. mode stays a number: a program in C
+// lends the rack, and any byte may stand there.
 #[repr(C)]
 #[derive(Clone, Copy)]
 pub struct Supply {
@@ -35,8 +39,41 @@ pub struct Supply {
     pub amp_count: u16,
 }
 
-// C05: a figure beyond its limits, or an address above 30. Only this code can be drawn by an order and by a line.
-pub const C05: u8 = 0xC5;
+// Why a line or an order is refused. A line draws C01 to C05, an order C05 (a figure beyond its limits) or one of the
+// others.
+#[derive(Clone, Copy, PartialEq, Eq)]
+pub enum ErrorCode {
+    C01,
+    C02,
+    C03,
+    C04,
+    C05,
+    E01,
+    E02,
+    E04,
+    E06,
+    E07,
+}
+
+// The byte whose hexadecimal digits are the letter and the last digit of the code's name.
+impl From<ErrorCode> for u8 {
+    fn from(code: ErrorCode) -> u8
+        ensures { result ≡ code_byte code }
+    {
+        match code {
+            ErrorCode::C01 => 0xC1,
+            ErrorCode::C02 => 0xC2,
+            ErrorCode::C03 => 0xC3,
+            ErrorCode::C04 => 0xC4,
+            ErrorCode::C05 => 0xC5,
+            ErrorCode::E01 => 0xE1,
+            ErrorCode::E02 => 0xE2,
+            ErrorCode::E04 => 0xE4,
+            ErrorCode::E06 => 0xE6,
+            ErrorCode::E07 => 0xE7,
+        }
+    }
+}
 
 #[derive(Clone, Copy)]
 pub enum Target {
@@ -51,6 +88,43 @@ pub enum Key {
     Output,
     Fold,
     Local,
+}
+
+// A number that no key, or no target, has.
+#[derive(Clone, Copy, Debug, PartialEq, Eq)]
+pub struct NotListed;
+
+// The key with a number, as a field gives it.
+impl TryFrom<u8> for Key {
+    type Error = NotListed;
+
+    ghost try_from_gives = { λ n r. r ≡ key_numbered n };
+
+    fn try_from(n: u8) -> Result<Key, NotListed> {
+        match n {
+            0 => Ok(Key::Output),
+            1 => Ok(Key::Fold),
+            2 => Ok(Key::Local),
+            _ => Err(NotListed),
+        }
+    }
+}
+
+// The target with a number, as a field gives it.
+impl TryFrom<u8> for Target {
+    type Error = NotListed;
+
+    ghost try_from_gives = { λ n r. r ≡ target_numbered n };
+
+    fn try_from(n: u8) -> Result<Target, NotListed> {
+        match n {
+            0 => Ok(Target::Pv),
+            1 => Ok(Target::Pc),
+            2 => Ok(Target::Ovp),
+            3 => Ok(Target::Uvl),
+            _ => Err(NotListed),
+        }
+    }
 }
 
 #[derive(Clone, Copy)]
@@ -102,13 +176,6 @@ pub enum Act {
     Nothing,
 }
 
-// The error code, 0 if the act was accepted, and the supply after the act.
-#[derive(Clone, Copy)]
-pub struct Outcome {
-    pub code: u8,
-    pub supply: Supply,
-}
-
 #[derive(Clone, Copy)]
 pub enum Word {
     On,
@@ -118,6 +185,15 @@ pub enum Word {
     Llo,
     Cc,
     Cv,
+}
+
+// A switch in words.
+impl From<bool> for Word {
+    fn from(on: bool) -> Word
+        ensures { result ≡ pick on Word.On Word.Off }
+    {
+        if on { Word::On } else { Word::Off }
+    }
 }
 
 // What STT? tells: the volt reading and PV in ticks, the ampere reading and PC in mA, STAT and FLT.
@@ -140,64 +216,102 @@ pub enum QueryAnswer {
     Tells(Status),
 }
 
-// The FLT byte.
-#[tactic(auto, unfolding(crate::specs::Flt::flt_of))]
-pub fn flt(s: Supply) -> u8
-    ensures { result ≡ flt_of s }
-{
-    (s.lines & 0xA6)
-        | ((s.fold_trip as u8) << 3)
-        | ((s.ovp_trip as u8) << 4)
-        | ((!s.want as u8) << 6)
-}
+impl Supply {
+    // A supply as fitted.
+    #[tactic(auto, unfolding(crate::specs::State::fresh))]
+    pub fn fresh(model: u8) -> Self
+        ensures { result ≡ fresh model }
+    {
+        Supply {
+            pv: 0,
+            pc: 0,
+            ovp: models::limits_of(model).ovp_most,
+            uvl: 0,
+            want: false,
+            armed: false,
+            ast: false,
+            mode: 0,
+            lines: 0,
+            fold_trip: false,
+            ovp_trip: false,
+            fena: 0,
+            feve: 0,
+            sena: 0,
+            seve: 0,
+            cv_seen: false,
+            volt_count: 0,
+            amp_count: 0,
+        }
+    }
 
-// Whether the output is on.
-#[tactic(auto, unfolding(crate::specs::Flt::on_of))]
-pub fn is_on(s: Supply) -> bool
-    ensures { result ≡ on_of s }
-{
-    flt(s) == 0
-}
+    // The FLT byte.
+    #[tactic(auto, unfolding(crate::specs::Flt::flt_of))]
+    pub fn flt(self) -> u8
+        ensures { result ≡ flt_of self }
+    {
+        (self.lines & 0xA6)
+            | (u8::from(self.fold_trip) << 3)
+            | (u8::from(self.ovp_trip) << 4)
+            | (u8::from(!self.want) << 6)
+    }
 
-// Whether LINES is 0, so that the output may be turned on.
-#[tactic(auto, unfolding(crate::specs::Flt::lines_clear))]
-pub fn lines_clear(s: Supply) -> bool
-    ensures { result ≡ lines_clear s }
-{
-    s.lines == 0
-}
+    // Whether the output is on.
+    #[tactic(auto, unfolding(crate::specs::Flt::on_of))]
+    pub fn is_on(self) -> bool
+        ensures { result ≡ on_of self }
+    {
+        self.flt() == 0
+    }
 
-// Whether an ampere reading is at least PC.
-pub fn reaches_pc(s: Supply, amps: u64) -> bool
-    ensures { result ≡ leb s.pc amps }
-{
-    (s.pc as u64) <= amps
-}
+    // Whether LINES is 0, so that the output may be turned on.
+    #[tactic(auto, unfolding(crate::specs::Flt::lines_clear))]
+    pub fn lines_clear(self) -> bool
+        ensures { result ≡ lines_clear self }
+    {
+        self.lines == 0
+    }
 
-// Whether the ampere reading of the stored counts is at least PC.
-#[tactic(auto, unfolding(crate::specs::Flt::in_limit))]
-pub fn in_limit(model: u8, s: Supply) -> bool
-    ensures { result ≡ in_limit model s }
-{
-    reaches_pc(s, models::amp_reading(model, s.amp_count))
-}
+    // Whether an ampere reading is at least PC.
+    pub fn reaches_pc(self, amps: u64) -> bool
+        ensures { result ≡ leb self.pc amps }
+    {
+        u64::from(self.pc) <= amps
+    }
 
-// The STAT byte.
-#[tactic(auto, unfolding(crate::specs::Stat::stat_of))]
-pub fn stat(model: u8, s: Supply) -> u8
-    ensures { result ≡ stat_of model s }
-{
-    let on = is_on(s);
-    let limited = in_limit(model, s);
-    let no_fault = s.feve == 0;
-    let local = s.mode == 0;
-    ((on & !limited) as u8)
-        | (((on & limited) as u8) << 1)
-        | ((no_fault as u8) << 2)
-        | ((!no_fault as u8) << 3)
-        | ((s.ast as u8) << 4)
-        | ((s.armed as u8) << 5)
-        | ((local as u8) << 7)
+    // Whether the ampere reading of the stored counts is at least PC.
+    #[tactic(auto, unfolding(crate::specs::Flt::in_limit))]
+    pub fn in_limit(self, model: u8) -> bool
+        ensures { result ≡ in_limit model self }
+    {
+        self.reaches_pc(models::amp_reading(model, self.amp_count))
+    }
+
+    // The STAT byte.
+    #[tactic(auto, unfolding(crate::specs::Stat::stat_of))]
+    pub fn stat(self, model: u8) -> u8
+        ensures { result ≡ stat_of model self }
+    {
+        let on = self.is_on();
+        let limited = self.in_limit(model);
+        let no_fault = self.feve == 0;
+        let local = self.mode == 0;
+        u8::from(on & !limited)
+            | (u8::from(on & limited) << 1)
+            | (u8::from(no_fault) << 2)
+            | (u8::from(!no_fault) << 3)
+            | (u8::from(self.ast) << 4)
+            | (u8::from(self.armed) << 5)
+            | (u8::from(local) << 7)
+    }
+
+    // Ends an act: with the output off, a supply forgets that a sample was judged CV.
+    #[tactic(auto, unfolding(crate::specs::Memory::cv_forgotten))]
+    pub fn forget_cv(self) -> Self
+        ensures { result ≡ cv_forgotten self }
+    {
+        let cv_seen = self.is_on() && self.cv_seen;
+        Supply { cv_seen, ..self }
+    }
 }
 
 // FEVE gains each FLT bit that rose and that FENA enabled before.
@@ -205,11 +319,8 @@ pub fn stat(model: u8, s: Supply) -> u8
 pub fn gain_feve(before: Supply, after: Supply) -> Supply
     ensures { result ≡ feve_gained before after }
 {
-    let was = flt(before);
-    let is = flt(after);
-    let mut t = after;
-    t.feve = after.feve | (is & !was & before.fena);
-    t
+    let feve = after.feve | (after.flt() & !before.flt() & before.fena);
+    Supply { feve, ..after }
 }
 
 // SEVE gains each STAT bit that rose and that SENA enabled before.
@@ -217,15 +328,12 @@ pub fn gain_feve(before: Supply, after: Supply) -> Supply
 pub fn gain_seve(model: u8, before: Supply, after: Supply) -> Supply
     ensures { result ≡ seve_gained model before after }
 {
-    let was = stat(model, before);
-    let is = stat(model, after);
-    let mut t = after;
-    t.seve = after.seve | (is & !was & before.sena);
-    t
+    let seve = after.seve | (after.stat(model) & !before.stat(model) & before.sena);
+    Supply { seve, ..after }
 }
 
 // The second stage of an act: FEVE gains first, then SEVE. With SENA 0 it can gain nothing, and STAT is not worked out.
-#[tactic(auto, unfolding(crate::specs::Registers::settled))]
+#[tactic(auto, using(crate::proofs::Gains::seve_disabled), unfolding(crate::specs::Registers::settled))]
 pub fn settle(model: u8, before: Supply, after: Supply) -> Supply
     ensures { result ≡ settled model before after }
 {
@@ -234,43 +342,4 @@ pub fn settle(model: u8, before: Supply, after: Supply) -> Supply
         return gained;
     }
     gain_seve(model, before, gained)
-}
-
-// Ends an act: with the output off, a supply forgets that a sample was judged CV.
-#[tactic(auto, unfolding(crate::specs::Memory::cv_forgotten))]
-pub fn forget_cv(s: Supply) -> Supply
-    ensures { result ≡ cv_forgotten s }
-{
-    let on = is_on(s);
-    let mut t = s;
-    t.cv_seen = on & s.cv_seen;
-    t
-}
-
-// A supply as fitted.
-#[tactic(auto, unfolding(crate::specs::State::fresh))]
-pub fn fresh_supply(model: u8) -> Supply
-    ensures { result ≡ fresh model }
-{
-    let l = models::limits_of(model);
-    Supply {
-        pv: 0,
-        pc: 0,
-        ovp: l.ovp_most,
-        uvl: 0,
-        want: false,
-        armed: false,
-        ast: false,
-        mode: 0,
-        lines: 0,
-        fold_trip: false,
-        ovp_trip: false,
-        fena: 0,
-        feve: 0,
-        sena: 0,
-        seve: 0,
-        cv_seen: false,
-        volt_count: 0,
-        amp_count: 0,
-    }
 }

@@ -2,15 +2,16 @@
 // The text of a reply: OK, an error code or an answer, a checksum if asked for, and CR, placed into a lent buffer.
 #![tactic(auto)]
 
-ghost use Rattle.std.specs.Prelude.{◌-◌, ◌≤◌, ◌++◌, take, drop};
+ghost use Rattle.std.specs.Prelude.{◌≡◌, ◌-◌, ◌≤◌, ◌++◌, take, drop};
 ghost use Rattle.base.specs.Put.{Put};
 ghost use Rattle.prints.specs.Figure.{figure};
 ghost use Rattle.hexadecimal.specs.Hex.{hex_pair};
+ghost use Rattle.supply.specs.ErrorCodes.{code_told};
 ghost use Rattle.texts.specs.Texts.{code_text, word_text, status_text, answer_text, ending, reply_of};
 
-use supply::{QueryAnswer, Status, Word};
+use supply::{ErrorCode, QueryAnswer, Status, Word};
 
-// Places OK or an error code.
+// Places OK (0) or an error code.
 fn put_code(buf: &mut [u8], at: usize, code: u8) -> usize
     ensures { Put buf.old at (code_text code) result buf.new }
 {
@@ -23,17 +24,18 @@ fn put_code(buf: &mut [u8], at: usize, code: u8) -> usize
     }
 }
 
-fn put_word(buf: &mut [u8], at: usize, w: Word) -> usize
-    ensures { Put buf.old at (word_text w) result buf.new }
+#[tactic(auto, unfolding(crate::specs::Texts::word_text))]
+fn spelling(w: Word) -> &'static [u8]
+    ensures { result.now ≡ word_text w }
 {
     match w {
-        Word::On => base::put_text(buf, at, b"ON"),
-        Word::Off => base::put_text(buf, at, b"OFF"),
-        Word::Loc => base::put_text(buf, at, b"LOC"),
-        Word::Rem => base::put_text(buf, at, b"REM"),
-        Word::Llo => base::put_text(buf, at, b"LLO"),
-        Word::Cc => base::put_text(buf, at, b"CC"),
-        Word::Cv => base::put_text(buf, at, b"CV"),
+        Word::On => b"ON",
+        Word::Off => b"OFF",
+        Word::Loc => b"LOC",
+        Word::Rem => b"REM",
+        Word::Llo => b"LLO",
+        Word::Cc => b"CC",
+        Word::Cv => b"CV",
     }
 }
 
@@ -70,7 +72,7 @@ fn put_answer(buf: &mut [u8], at: usize, a: QueryAnswer) -> usize
 {
     match a {
         QueryAnswer::Figure(k, v) => prints::put_figure(buf, at, k as usize, v),
-        QueryAnswer::Says(w) => put_word(buf, at, w),
+        QueryAnswer::Says(w) => base::put_text(buf, at, spelling(w)),
         QueryAnswer::Hex(b) => hexadecimal::put_hex(buf, at, b),
         QueryAnswer::Tells(t) => put_status(buf, at, t),
     }
@@ -95,12 +97,27 @@ fn put_end(buf: &mut [u8], from: usize, at: usize, checksummed: bool) -> usize
     }
 }
 
-// Places a whole reply that is OK or an error code.
+// Places a whole reply that is OK (0) or an error code.
 pub fn put_code_reply(buf: &mut [u8], at: usize, code: u8, checksummed: bool) -> usize
     ensures { Put buf.old at (reply_of checksummed (code_text code)) result buf.new }
 {
     let p = put_code(buf, at, code);
     put_end(buf, at, p, checksummed)
+}
+
+// Places a whole reply that is OK, or the error code of what was refused.
+pub fn put_told_reply(
+    buf: &mut [u8],
+    at: usize,
+    told: Result<(), ErrorCode>,
+    checksummed: bool,
+) -> usize
+    ensures { Put buf.old at (reply_of checksummed (code_text (code_told told))) result buf.new }
+{
+    match told {
+        Ok(()) => put_code_reply(buf, at, 0, checksummed),
+        Err(e) => put_code_reply(buf, at, u8::from(e), checksummed),
+    }
 }
 
 // Places a whole reply that is an answer.

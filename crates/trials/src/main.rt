@@ -30,10 +30,6 @@ struct Tally {
     more: bool,
 }
 
-fn one_more(n: u64) -> u64 {
-    if n < u64::MAX { n + 1 } else { n }
-}
-
 // Names the line of a wrong case, unless enough of them are named.
 fn name_wrong(rt: &HostRuntime, line: u64, wrong: u64) {
     if wrong < NAMED {
@@ -44,7 +40,7 @@ fn name_wrong(rt: &HostRuntime, line: u64, wrong: u64) {
 // Appends a digit to a number; no number in a table is as large as the bound.
 fn with_digit(n: u64, d: u8) -> u64 {
     if n < 1_000_000_000_000_000_000 {
-        n * 10 + d as u64
+        n * 10 + u64::from(d)
     } else {
         n
     }
@@ -52,62 +48,62 @@ fn with_digit(n: u64, d: u8) -> u64 {
 
 // A character of a number; anything but a digit spoils the row.
 fn take_digit(t: Tally, b: u8) -> Tally {
-    let mut r = t;
-    if b < b'0' {
-        r.at = SPOILED;
-        return r;
+    if b.is_ascii_digit() {
+        let number = with_digit(t.number, b - b'0');
+        Tally { number, ..t }
+    } else {
+        Tally { at: SPOILED, ..t }
     }
-    if b'9' < b {
-        r.at = SPOILED;
-        return r;
-    }
-    r.number = with_digit(t.number, b - b'0');
-    r
 }
 
 // A number ends and goes to its cell.
 fn end_number(row: &mut [u64; CELLS], t: Tally) -> Tally {
-    let at = t.at;
-    let mut r = t;
-    r.number = 0;
-    if at < CELLS {
-        row[at] = t.number;
-        r.at = at + 1;
-    } else {
-        r.at = SPOILED;
+    if t.at >= CELLS {
+        return Tally {
+            at: SPOILED,
+            number: 0,
+            ..t
+        };
     }
-    r
+    row[t.at] = t.number;
+    Tally {
+        at: t.at + 1,
+        number: 0,
+        ..t
+    }
 }
 
 // A row ends, and its case is tried.
 fn end_row(rt: &HostRuntime, row: &[u64; CELLS], t: Tally) -> Tally {
-    let mut r = t;
-    r.at = 0;
-    r.cases = one_more(t.cases);
-    if !((t.at == CELLS) & rows::row_holds(row)) {
-        name_wrong(rt, r.cases, t.wrong);
-        r.wrong = one_more(t.wrong);
+    let cases = t.cases.saturating_add(1);
+    if t.at == CELLS && rows::row_holds(row) {
+        return Tally { at: 0, cases, ..t };
     }
-    r
+    name_wrong(rt, cases, t.wrong);
+    Tally {
+        at: 0,
+        cases,
+        wrong: t.wrong.saturating_add(1),
+        ..t
+    }
 }
 
 fn take_byte(rt: &HostRuntime, row: &mut [u64; CELLS], t: Tally, b: u8) -> Tally {
-    if b == b'\n' {
-        let r = end_number(row, t);
-        end_row(rt, row, r)
-    } else if b == b' ' {
-        end_number(row, t)
-    } else {
-        take_digit(t, b)
+    match b {
+        b'\n' => {
+            let ended = end_number(row, t);
+            end_row(rt, row, ended)
+        }
+        b' ' => end_number(row, t),
+        _ => take_digit(t, b),
     }
 }
 
-fn take_bytes(rt: &HostRuntime, row: &mut [u64; CELLS], t: Tally, s: &[u8]) -> Tally {
-    let mut r = t;
+fn take_bytes(rt: &HostRuntime, row: &mut [u64; CELLS], mut t: Tally, s: &[u8]) -> Tally {
     for b in s {
-        r = take_byte(rt, row, r, *b);
+        t = take_byte(rt, row, t, *b);
     }
-    r
+    t
 }
 
 // Reads until the buffer is full, the input ends or a read fails, and returns how many bytes came.
@@ -129,9 +125,10 @@ fn read_full(rt: &HostRuntime, buf: &mut [u8]) -> usize
 fn take_block(rt: &HostRuntime, row: &mut [u64; CELLS], t: Tally) -> Tally {
     let mut buf = [0u8; 65_536];
     let n = read_full(rt, &mut buf);
-    let mut r = take_bytes(rt, row, t, &buf[..n]);
-    r.more = 0 < n;
-    r
+    Tally {
+        more: 0 < n,
+        ..take_bytes(rt, row, t, &buf[..n])
+    }
 }
 
 // Reads to the end of the input; the bound allows more blocks than any table has.

@@ -1,36 +1,32 @@
 // A case of the supply as a row of 48 numbers: the state before, an act, and what is expected of it. Makes the state
 // and the act from the numbers, and decides whether the supply does what the row expects. tests/src/trial.rs says what
 // each number is.
-use supply::{Act, Key, Order, Query, QueryAnswer, Status, Supply, Target, Word};
+use supply::{Act, Key, Order, Query, QueryAnswer, Supply, Target, Word};
 
 // How many numbers a row has, and where its parts begin. The model is the first number.
 pub const CELLS: usize = 48;
 
-const BEFORE: u8 = 1;
+const BEFORE: usize = 1;
 
-const ACT: u8 = 19;
+const ACT: usize = 19;
 
-const CODE: u8 = 22;
+const CODE: usize = 22;
 
-const AFTER: u8 = 23;
+const AFTER: usize = 23;
 
-const ANSWER: u8 = 41;
+const ANSWER: usize = 41;
+
+// How many numbers a state is, and an answer.
+const STATE: usize = 18;
+
+const ANSWERED: usize = 7;
 
 fn target_of(n: u64) -> Target {
-    match n {
-        0 => Target::Pv,
-        1 => Target::Pc,
-        2 => Target::Ovp,
-        _ => Target::Uvl,
-    }
+    Target::try_from(byte_of(n)).unwrap_or(Target::Uvl)
 }
 
 fn key_of(n: u64) -> Key {
-    match n {
-        0 => Key::Output,
-        1 => Key::Fold,
-        _ => Key::Local,
-    }
+    Key::try_from(byte_of(n)).unwrap_or(Key::Local)
 }
 
 fn query_of(n: u64) -> Query {
@@ -121,74 +117,58 @@ fn second_values(kind: u64) -> u64 {
     }
 }
 
-// A number of the row, counted from the cell where its part begins; 0 past the last.
-fn cell(row: &[u64; CELLS], at: u8, k: u8) -> u64 {
-    let i = at as usize + k as usize;
-    if i < CELLS { row[i] } else { 0 }
-}
-
-// The supply whose state begins at a cell.
-fn supply_at(row: &[u64; CELLS], at: u8) -> Supply {
+// The supply before the act.
+fn supply_before(row: &[u64; CELLS]) -> Supply {
+    let n = &row[BEFORE..ACT];
     Supply {
-        pv: figure_of(cell(row, at, 0)),
-        pc: figure_of(cell(row, at, 1)),
-        ovp: figure_of(cell(row, at, 2)),
-        uvl: figure_of(cell(row, at, 3)),
-        want: cell(row, at, 4) == 1,
-        armed: cell(row, at, 5) == 1,
-        ast: cell(row, at, 6) == 1,
-        mode: byte_of(cell(row, at, 7)),
-        lines: byte_of(cell(row, at, 8)),
-        fold_trip: cell(row, at, 9) == 1,
-        ovp_trip: cell(row, at, 10) == 1,
-        fena: byte_of(cell(row, at, 11)),
-        feve: byte_of(cell(row, at, 12)),
-        sena: byte_of(cell(row, at, 13)),
-        seve: byte_of(cell(row, at, 14)),
-        cv_seen: cell(row, at, 15) == 1,
-        volt_count: count_of(cell(row, at, 16)),
-        amp_count: count_of(cell(row, at, 17)),
+        pv: figure_of(n[0]),
+        pc: figure_of(n[1]),
+        ovp: figure_of(n[2]),
+        uvl: figure_of(n[3]),
+        want: n[4] == 1,
+        armed: n[5] == 1,
+        ast: n[6] == 1,
+        mode: byte_of(n[7]),
+        lines: byte_of(n[8]),
+        fold_trip: n[9] == 1,
+        ovp_trip: n[10] == 1,
+        fena: byte_of(n[11]),
+        feve: byte_of(n[12]),
+        sena: byte_of(n[13]),
+        seve: byte_of(n[14]),
+        cv_seen: n[15] == 1,
+        volt_count: count_of(n[16]),
+        amp_count: count_of(n[17]),
     }
 }
 
-fn settings_agree(row: &[u64; CELLS], at: u8, s: Supply) -> bool {
-    (cell(row, at, 0) == s.pv as u64)
-        & (cell(row, at, 1) == s.pc as u64)
-        & (cell(row, at, 2) == s.ovp as u64)
-        & (cell(row, at, 3) == s.uvl as u64)
+// The numbers of a state, as a row has them.
+fn state_of(s: Supply) -> [u64; STATE] {
+    [
+        u64::from(s.pv),
+        u64::from(s.pc),
+        u64::from(s.ovp),
+        u64::from(s.uvl),
+        u64::from(s.want),
+        u64::from(s.armed),
+        u64::from(s.ast),
+        u64::from(s.mode),
+        u64::from(s.lines),
+        u64::from(s.fold_trip),
+        u64::from(s.ovp_trip),
+        u64::from(s.fena),
+        u64::from(s.feve),
+        u64::from(s.sena),
+        u64::from(s.seve),
+        u64::from(s.cv_seen),
+        u64::from(s.volt_count),
+        u64::from(s.amp_count),
+    ]
 }
 
-fn switches_agree(row: &[u64; CELLS], at: u8, s: Supply) -> bool {
-    (cell(row, at, 4) == s.want as u64)
-        & (cell(row, at, 5) == s.armed as u64)
-        & (cell(row, at, 6) == s.ast as u64)
-        & (cell(row, at, 7) == s.mode as u64)
-        & (cell(row, at, 9) == s.fold_trip as u64)
-        & (cell(row, at, 10) == s.ovp_trip as u64)
-        & (cell(row, at, 15) == s.cv_seen as u64)
-}
-
-fn faults_agree(row: &[u64; CELLS], at: u8, s: Supply) -> bool {
-    (cell(row, at, 8) == s.lines as u64)
-        & (cell(row, at, 11) == s.fena as u64)
-        & (cell(row, at, 12) == s.feve as u64)
-}
-
-fn status_agrees(row: &[u64; CELLS], at: u8, s: Supply) -> bool {
-    (cell(row, at, 13) == s.sena as u64) & (cell(row, at, 14) == s.seve as u64)
-}
-
-fn counts_agree(row: &[u64; CELLS], at: u8, s: Supply) -> bool {
-    (cell(row, at, 16) == s.volt_count as u64) & (cell(row, at, 17) == s.amp_count as u64)
-}
-
-// Whether a supply has, in every part, the state that begins at a cell.
-fn supply_agrees(row: &[u64; CELLS], at: u8, s: Supply) -> bool {
-    settings_agree(row, at, s)
-        & switches_agree(row, at, s)
-        & faults_agree(row, at, s)
-        & status_agrees(row, at, s)
-        & counts_agree(row, at, s)
+// Whether a supply has, in every part, the state that these cells expect.
+fn supply_agrees(cells: &[u64], s: Supply) -> bool {
+    cells == &state_of(s)[..]
 }
 
 fn word_number(w: Word) -> u64 {
@@ -203,63 +183,54 @@ fn word_number(w: Word) -> u64 {
     }
 }
 
-// Whether the row expects an answer of this kind with these values, and with no others.
-fn answer_is(row: &[u64; CELLS], kind: u64, a: u64, b: u64) -> bool {
-    (cell(row, ANSWER, 0) == kind)
-        & (cell(row, ANSWER, 1) == a)
-        & (cell(row, ANSWER, 2) == b)
-        & (cell(row, ANSWER, 3) == 0)
-        & (cell(row, ANSWER, 4) == 0)
-        & (cell(row, ANSWER, 5) == 0)
-        & (cell(row, ANSWER, 6) == 0)
-}
-
-// Whether the row expects this answer to STT?.
-fn status_is(row: &[u64; CELLS], t: Status) -> bool {
-    (cell(row, ANSWER, 0) == 4)
-        & (cell(row, ANSWER, 1) == t.volts)
-        & (cell(row, ANSWER, 2) == t.pv)
-        & (cell(row, ANSWER, 3) == t.amps)
-        & (cell(row, ANSWER, 4) == t.pc)
-        & (cell(row, ANSWER, 5) == t.stat as u64)
-        & (cell(row, ANSWER, 6) == t.flt as u64)
-}
-
-fn answer_agrees(row: &[u64; CELLS], a: QueryAnswer) -> bool {
+// The numbers of an answer, as a row has them: its kind and its values.
+fn answer_numbers(a: QueryAnswer) -> [u64; ANSWERED] {
     match a {
-        QueryAnswer::Figure(decimals, n) => answer_is(row, 1, decimals as u64, n),
-        QueryAnswer::Says(w) => answer_is(row, 2, word_number(w), 0),
-        QueryAnswer::Hex(b) => answer_is(row, 3, b as u64, 0),
-        QueryAnswer::Tells(t) => status_is(row, t),
+        QueryAnswer::Figure(decimals, n) => [1, u64::from(decimals), n, 0, 0, 0, 0],
+        QueryAnswer::Says(w) => [2, word_number(w), 0, 0, 0, 0, 0],
+        QueryAnswer::Hex(b) => [3, u64::from(b), 0, 0, 0, 0, 0],
+        QueryAnswer::Tells(t) => [
+            4,
+            t.volts,
+            t.pv,
+            t.amps,
+            t.pc,
+            u64::from(t.stat),
+            u64::from(t.flt),
+        ],
     }
 }
 
 // A query is answered from the supply before it; no other act has an answer.
 fn reply_agrees(row: &[u64; CELLS], model: u8, s: Supply, a: Act) -> bool {
-    match a {
-        Act::Ask(q) => answer_agrees(row, answers::answer_to(model, s, q)),
-        _ => answer_is(row, 0, 0, 0),
-    }
+    let expected = if let Act::Ask(q) = a {
+        answer_numbers(answers::answer_to(model, s, q))
+    } else {
+        [0; ANSWERED]
+    };
+    row[ANSWER..] == expected[..]
 }
 
 // Whether there is such a model and such an act, and the row holds exactly the state that was made from it.
 fn row_reads(row: &[u64; CELLS], before: Supply) -> bool {
-    let kind = cell(row, ACT, 0);
-    (cell(row, 0, 0) < 12)
-        & supply_agrees(row, BEFORE, before)
-        & (cell(row, ACT, 1) < first_values(kind))
-        & (cell(row, ACT, 2) < second_values(kind))
+    let kind = row[ACT];
+    row[0] < 12
+        && supply_agrees(&row[BEFORE..ACT], before)
+        && row[ACT + 1] < first_values(kind)
+        && row[ACT + 2] < second_values(kind)
 }
 
 // Whether the supply does what the row expects.
 pub fn row_holds(row: &[u64; CELLS]) -> bool {
-    let model = byte_of(cell(row, 0, 0));
-    let before = supply_at(row, BEFORE);
-    let act = act_of(cell(row, ACT, 0), cell(row, ACT, 1), cell(row, ACT, 2));
-    let done = acts::perform(model, before, act);
-    let after = done.supply;
+    let model = byte_of(row[0]);
+    let before = supply_before(row);
+    let act = act_of(row[ACT], row[ACT + 1], row[ACT + 2]);
+    let (code, after) = match acts::perform(model, before, act) {
+        Ok(after) => (0, after),
+        Err(e) => (u8::from(e), before),
+    };
     row_reads(row, before)
-        & (cell(row, CODE, 0) == done.code as u64)
-        & supply_agrees(row, AFTER, after)
-        & reply_agrees(row, model, before, act)
+        && row[CODE] == u64::from(code)
+        && supply_agrees(&row[AFTER..ANSWER], after)
+        && reply_agrees(row, model, before, act)
 }

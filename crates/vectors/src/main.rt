@@ -17,11 +17,9 @@ fn line(rt: &HostRuntime, buf: &mut [u8], n: usize) {
 fn put_read(buf: &mut [u8], at: usize, s: &[u8], k: usize) -> usize
     requires { k ≤ 6 }
 {
-    let n = figures::read_number(s, k);
-    if n.good {
-        prints::put_figure(buf, at, k, n.value)
-    } else {
-        base::put_text(buf, at, b"none")
+    match figures::read_number(s, k) {
+        Some(v) => prints::put_figure(buf, at, k, v),
+        None => base::put_text(buf, at, b"none"),
     }
 }
 
@@ -40,10 +38,8 @@ fn number(rt: &HostRuntime, s: &[u8], k: usize)
 fn numbers(rt: &HostRuntime, texts: &[u8], k: usize)
     requires { k ≤ 6 }
 {
-    let p = figures::first_at(texts, b' ');
-    number(rt, base::part_to(texts, p), k);
-    if p < texts.len() {
-        numbers(rt, figures::part_after(texts, p), k);
+    for text in texts.split(|b| *b == b' ') {
+        number(rt, text, k);
     }
 }
 
@@ -59,7 +55,7 @@ fn checksummed(rt: &HostRuntime, s: &[u8]) {
 // A model, and its volt and ampere readings at the highest count.
 fn readings(rt: &HostRuntime, model: u8) {
     let mut buf = [0u8; 64];
-    let p = prints::put_figure(&mut buf, 0, 0, model as u64);
+    let p = prints::put_figure(&mut buf, 0, 0, u64::from(model));
     let q = base::put_byte(&mut buf, p, b' ');
     let r = prints::put_figure(&mut buf, q, 4, models::volt_reading(model, 65535));
     let t = base::put_byte(&mut buf, r, b' ');

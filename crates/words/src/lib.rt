@@ -3,39 +3,24 @@
 #![tactic(auto)]
 
 ghost use Rattle.std.specs.Prelude.{◌≡◌, ◌≤◌, length};
-ghost use Rattle.words.specs.Words.{upper, packed, upper_all, word_number};
+ghost use Rattle.words.specs.Words.{upper_all, pack, word_number};
 
-// A character, as a capital if it is a small letter.
-pub fn upper_byte(b: u8) -> u8
-    ensures { result ≡ upper b }
+// The characters of s, in capitals, as one number.
+fn pack_word(s: &[u8]) -> u64
+    requires { length s.now ≤ 5 }
+    ensures { result ≡ pack (upper_all s.now) }
 {
-    if b < 97 {
-        return b;
-    }
-    if 122 < b {
-        return b;
-    }
-    b - 32
-}
-
-// The first n characters of s, in capitals, as one number.
-fn pack_word(s: &[u8], n: usize) -> u64
-    requires { (n ≤ 5) × (n ≤ length s.now) }
-    ensures { result ≡ packed (upper_all s.now) n }
-{
-    let mut word: u64 = 1;
-    let mut i = 0;
-    while i < n {
-        word = word * 256 + base::wide(upper_byte(s[i]));
-        i += 1;
+    let mut word = 1;
+    for b in s {
+        word = word * 256 + u64::from(b.to_ascii_uppercase());
     }
     word
 }
 
 // A word's number; 0 for a word of more than five characters, which no table has.
+#[tactic(auto, unfolding(crate::specs::Words::word_number))]
 pub fn word_number(s: &[u8]) -> u64
     ensures { result ≡ word_number s.now }
 {
-    let n = s.len();
-    if 5 < n { 0 } else { pack_word(s, n) }
+    if 5 < s.len() { 0 } else { pack_word(s) }
 }

@@ -1,10 +1,7 @@
--- after i iterations the first i bytes are placed
-use Rattle.std.proofs.Common.{◌≤◌, ◌-◌, length, take}
+-- before the byte at an index, the bytes before that index are placed
+use Rattle.std.proofs.Common.{take}
 use Rattle.base.specs.Put.{Put}
 use Rattle.base.proofs.put_text.Given as goal
 
-abbrev pub invariant-loop-i : goal.invariant-loop-i
-invariant-loop-i l = record { inside : l.i ≤ length l.s; placed : Put l.initial.buf l.at (take l.i l.s) l.p l.buf }
-
-abbrev pub decreases-loop-i : goal.decreases-loop-i
-decreases-loop-i l = length l.s - l.i
+abbrev pub invariant-loop-b : goal.invariant-loop-b
+invariant-loop-b l = Put l.initial.buf l.at (take l.b-index l.s) l.p l.buf

@@ -1,8 +1,6 @@
-use Rattle.std.proofs.Common.{length, ◌≤◌, ◌-◌}
+-- each cycle leaves less of the text
+use Rattle.std.proofs.Common.{length}
 use Rattle.dialogue.proofs.put_bytes.Given as goal
 
-abbrev pub invariant-loop-i : goal.invariant-loop-i
-invariant-loop-i l = l.i ≤ length l.text
-
-abbrev pub decreases-loop-i : goal.decreases-loop-i
-decreases-loop-i l = length l.text - l.i
+abbrev pub decreases-loop-byte : goal.decreases-loop-byte
+decreases-loop-byte l = length l.rest

@@ -1,16 +1,13 @@
-use Rattle.std.proofs.Common.{arith}
-use Rattle.figures.proofs.Laws.{first_here, first_on, first_end}
+use Rattle.std.proofs.Common.{rules, tests, arith, ◌≡◌, ◌∙◌}
+use lib.Dec.{eqb}
+use Rattle.std.proofs.lemmas.Iterator.{YieldsList-from_slice}
+use Rattle.std.proofs.lemmas.Iterator.Search.{position_from_yields_List}
+use Rattle.figures.specs.Number.{first_at}
+use Rattle.figures.proofs.Laws.{first_position, first_le}
 use Rattle.figures.proofs.first_at.Goals as goal
 
-pub returns-then-s-i : goal.returns-then-s-i
-returns-then-s-i c = (omega (arith, first_here c.args.x c.args.s.now c.loop-i.i (omega arith) c.if-s-i.true), omega arith)
-
-pub loop-i-preserved : goal.loop-i-preserved
-loop-i-preserved c =
-    record {
-      inside = omega arith;
-      from_here = omega (arith, first_on c.args.x c.args.s.now c.loop-i.i (omega arith) c.if-s-i.false);
-    }
-
 pub returns : goal.returns
-returns c = (omega (arith, first_end c.args.x c.args.s.now c.loop-i.i (omega arith)), omega arith)
+returns c =
+    let found = position_from_yields_List (λ y. eqb y c.args.x) _ _ _ c.position.ensures.ran (YieldsList-from_slice c.args.s.now cc) (λ x b q k. search (rules, tests)) in
+    let at : c.unwrap_or.result ≡ first_at c.args.x c.args.s.now = rw found at c.unwrap_or.ensures ∙ first_position _ _ in
+    (at, omega (arith, first_le c.args.x c.args.s.now))

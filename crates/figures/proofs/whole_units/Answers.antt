@@ -1,16 +1,22 @@
-use Rattle.std.proofs.Common.{refl}
+use Rattle.std.proofs.Common.{rules, refl, ◌<◌, ◌≤◌, ◌*◌, ◌%◌}
 use borrow.Author.Tests.{lt-ltb, le-ltb}
 use Rattle.figures.specs.Number.{whole_units}
 use Rattle.figures.proofs.whole_units.Goals as goal
 
-pub returns-then-twice-d : goal.returns-then-twice-d
+pub returns-in-Less : goal.returns-in-Less
 unfolding whole_units
-returns-then-twice-d c = rw (lt-ltb _ _ c.if-twice-d.true) refl
+returns-in-Less c = let l : 2 * (c.args.a % c.args.d) < c.args.d = search rules in rw (lt-ltb _ _ l) refl
 
-pub returns-then-d-twice : goal.returns-then-d-twice
+pub returns-in-Equal : goal.returns-in-Equal
 unfolding whole_units
-returns-then-d-twice c = rw (le-ltb _ _ c.if-twice-d.false, lt-ltb _ _ c.if-d-twice.true) refl
+returns-in-Equal c =
+    let l : c.args.d ≤ 2 * (c.args.a % c.args.d) = search rules in
+    let m : 2 * (c.args.a % c.args.d) ≤ c.args.d = search rules in
+    rw (le-ltb _ _ l, le-ltb _ _ m) refl
 
-pub returns-else-d-twice : goal.returns-else-d-twice
+pub returns-in-Greater : goal.returns-in-Greater
 unfolding whole_units
-returns-else-d-twice c = rw (le-ltb _ _ c.if-twice-d.false, le-ltb _ _ c.if-d-twice.false) refl
+returns-in-Greater c =
+    let l : c.args.d < 2 * (c.args.a % c.args.d) = search rules in
+    let m : c.args.d ≤ 2 * (c.args.a % c.args.d) = search rules in
+    rw (le-ltb _ _ m, lt-ltb _ _ l) refl

@@ -1,16 +1,11 @@
-use borrow.Author.Rules.{rules}
-use Rattle.fitting.proofs.Laws.{allowed_none, allowed_more, allowed_all}
+use Rattle.std.proofs.Common.{rules, tests, ◌∙◌}
+use Rattle.std.proofs.lemmas.Iterator.{YieldsList-from_slice}
+use Rattle.std.proofs.lemmas.Iterator.Search.{all_from_yields_List}
+use Rattle.fitting.specs.Fitting.{allowed}
+use Rattle.fitting.proofs.Laws.{allowed_each}
 use Rattle.fitting.proofs.all_allowed.Goals as goal
 
-pub loop-i-init : goal.loop-i-init
-loop-i-init c = record { inside = search rules; judged = allowed_none }
-
-pub loop-i-preserved : goal.loop-i-preserved
-loop-i-preserved c =
-    record {
-      inside = search rules;
-      judged = allowed_more _ c.loop-i.i _ c.loop-i-test.true c.loop-i.invariant.judged;
-    }
-
 pub returns : goal.returns
-returns c = allowed_all _ c.loop-i.i _ c.loop-i-test.false c.loop-i.invariant.judged
+returns c =
+    all_from_yields_List allowed _ _ _ c.all.ensures.ran (YieldsList-from_slice c.args.list.now cc) (λ x b q k. search (rules, tests))
+    ∙ allowed_each _

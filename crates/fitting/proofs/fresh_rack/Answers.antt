@@ -1,16 +1,10 @@
-use borrow.Author.Rules.{rules}
-use Rattle.fitting.proofs.Laws.{fresh_again, made}
+use Rattle.std.proofs.Common.{rules, ◌≡◌, ℕ, ◌<◌, get_or}
+use Rattle.supply.specs.State.{fresh}
+use Rattle.fitting.proofs.Laws.{made}
 use Rattle.fitting.proofs.fresh_rack.Goals as goal
-
-pub loop-i-preserved : goal.loop-i-preserved
-loop-i-preserved c =
-    record {
-      inside = search rules;
-      size = c.loop-i.invariant.size;
-      fresh_so_far = fresh_again c.args.models 0 c.loop-i.i _ _ _ (search rules) c.loop-i.invariant.fresh_so_far c.fresh_supply.ensures;
-    }
 
 pub returns : goal.returns
 returns c =
-    made _ _ _ c.loop-i.i _ (search rules) c.loop-i.invariant.size c.loop-i.invariant.inside c.loop-i-test.false
-    c.loop-i.invariant.fresh_so_far c.fresh_line.ensures.0 c.fresh_line.ensures.1
+    let each : (i : ℕ) → i < 31 → get_or c.map.result i (fresh 255) ≡ fresh (get_or c.args.models i 255) =
+    λ i h. let k = c.map.ensures.items.at i 255 (fresh 255) h in search rules in
+    made c.args.models c.map.result c.fresh_line.result (search rules) c.map.ensures.items.long each c.fresh_line.ensures.0 c.fresh_line.ensures.1

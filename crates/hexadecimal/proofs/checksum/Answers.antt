@@ -1,16 +1,10 @@
-use Rattle.std.proofs.Common.{arith}
-use Rattle.hexadecimal.specs.Hex.{checksum}
-use Rattle.hexadecimal.proofs.Laws.{total_step, total_end}
+use Rattle.std.proofs.Common.{◌+◌, ◌%◌, ◌∙◌, rules, tests}
+use Rattle.std.proofs.lemmas.Iterator.{YieldsList-from_slice}
+use Rattle.std.proofs.lemmas.Iterator.Consumers.{fold_from_yields_List}
+use Rattle.hexadecimal.proofs.Laws.{sum_by_byte}
 use Rattle.hexadecimal.proofs.checksum.Goals as goal
 
-pub loop-i-preserved : goal.loop-i-preserved
-loop-i-preserved c =
-    record {
-      inside = omega arith;
-      byte = omega arith;
-      rest = omega (arith, total_step c.args.s.now c.loop-i.i (omega arith));
-    }
-
 pub returns : goal.returns
-unfolding checksum
-returns c = omega (arith, total_end c.args.s.now c.loop-i.i (omega arith))
+returns c =
+    fold_from_yields_List _ (λ t b. (t + b) % 256) _ _ c.fold.ensures.ran (YieldsList-from_slice c.args.s.now cc) (λ a x b q k. search (rules, tests))
+    ∙ sum_by_byte _

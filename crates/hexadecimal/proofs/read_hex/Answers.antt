@@ -1,18 +1,22 @@
-use Rattle.std.proofs.Common.{true, false, ◌∙◌}
-use Rattle.hexadecimal.proofs.Laws.{hex_length, hex_pick}
+use Rattle.std.proofs.Common.{◌∙◌, arith}
+use Rattle.hexadecimal.proofs.Laws.{hex_high, hex_low, hex_both, value_lt}
 use Rattle.hexadecimal.proofs.read_hex.Goals as goal
 
-pub returns-then-s-ne2 : goal.returns-then-s-ne2
-returns-then-s-ne2 c = c.no_number.ensures ∙ hex_length _ c.if-s-ne2.true
+pub returns-in_err-hex_value : goal.returns-in_err-hex_value
+returns-in_err-hex_value c =
+    c.from_residual.ensures ∙ hex_high c.args.s.now (omega arith) c.in_err-hex_value.ensures
 
-pub returns-then-not-is_hex : goal.returns-then-not-is_hex
-returns-then-not-is_hex c =
-    c.no_number-then-not-is_hex.ensures
-    ∙ hex_pick _ c.if-s-ne2.false false
-    (rw (← c.is_hex.ensures, ← c.is_hex-2.ensures) c.if-not-is_hex.true)
+pub returns-in_err-hex_value-2 : goal.returns-in_err-hex_value-2
+returns-in_err-hex_value-2 c =
+    c.from_residual-in_err-hex_value-2.ensures
+    ∙ hex_low c.args.s.now (omega arith) c.in_ok-hex_value.ensures c.in_err-hex_value-2.ensures
+
+pub overflow_mul-result : goal.overflow_mul-result
+overflow_mul-result c = omega (arith, value_lt c.args.s.now 0 c.in_ok-hex_value.ensures)
+
+pub overflow_add-result : goal.overflow_add-result
+overflow_add-result c =
+    omega (arith, value_lt c.args.s.now 0 c.in_ok-hex_value.ensures, value_lt c.args.s.now 1 c.in_ok-hex_value-2.ensures)
 
 pub returns : goal.returns
-returns c =
-    rw (c.hex_of.ensures.0, c.hex_of-2.ensures.0)
-    (hex_pick _ c.if-s-ne2.false true
-    (rw (← c.is_hex.ensures, ← c.is_hex-2.ensures) c.if-not-is_hex.false))
+returns c = hex_both c.args.s.now (omega arith) c.in_ok-hex_value.ensures c.in_ok-hex_value-2.ensures

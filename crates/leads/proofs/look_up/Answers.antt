@@ -1,24 +1,22 @@
-use Rattle.std.proofs.Common.{refl, sym, ◌∙◌, arith}
-use Rattle.leads.specs.Gauges.{listing_of}
-use Rattle.leads.proofs.Rows.{listing_here, listing_on, listing_end}
+use Rattle.std.proofs.Common.{rules, tests, ◌≡◌, ◌∙◌, refl, Bor, Option, Some, None}
+use Rattle.std.proofs.lemmas.Iterator.{YieldsList-from_slice}
+use Rattle.std.proofs.lemmas.Iterator.Search.{find_from_yields_List}
+use lib.Dec.{eqb}
+use Rattle.std.specs.Option.{option_map}
+use Rattle.leads.specs.declared.Row.{Row}
+use Rattle.leads.specs.Gauges.{table, listing_of}
+use Rattle.leads.proofs.Rows.{found}
 use Rattle.leads.proofs.look_up.Goals as goal
 
-pub loop-i-init : goal.loop-i-init
-unfolding listing_of
-loop-i-init c = record { inside = omega arith; rest = refl }
-
-pub returns-then-row-gauge : goal.returns-then-row-gauge
-returns-then-row-gauge c =
-    sym (listing_here c.args.gauge c.loop-i.i (omega arith) c.row_at-row.result c.row_at-row.ensures c.if-row-gauge.true)
-    ∙ c.loop-i.invariant.rest
-
-pub loop-i-preserved : goal.loop-i-preserved
-loop-i-preserved c =
-    record {
-      inside = omega arith;
-      rest = sym (listing_on c.args.gauge c.loop-i.i (omega arith) c.row_at-row.result c.row_at-row.ensures c.if-row-gauge.false)
-          ∙ c.loop-i.invariant.rest;
-    }
+-- what is read of the row that a reference names
+read : (o : Option (Bor Row)) {p : Option Row} → option_map (λ (x : Bor Row). x.now) o ≡ p
+    → option_map (λ (x : Bor Row). x.now.resistance) o ≡ option_map (λ (x : Row). x.resistance) p
+read None e = rw (← e) refl
+read (Some x) e = rw (← e) refl
 
 pub returns : goal.returns
-returns c = sym (listing_end c.args.gauge c.loop-i.i c.loop-i-test.false) ∙ c.loop-i.invariant.rest
+unfolding table listing_of
+returns c =
+    let first = find_from_yields_List (λ (x : Row). eqb x.gauge c.args.gauge) _ _ _ c.find.ensures.ran (YieldsList-from_slice table c.iter.ensures.rest) (λ x b q k. search (rules, tests)) in
+    let its : c.map.result ≡ option_map (λ (x : Bor Row). x.now.resistance) c.find.result = search rules in
+    its ∙ read c.find.result first ∙ found c.args.gauge table

@@ -1,22 +1,29 @@
+use mathlib.Core.Path.{◌≡◌, refl}
+use Prim.Native.Nat.{ℕ}
+use Rattle.supply.specs.declared.Supply.{Supply}
+use Rattle.supply.specs.declared.Query.{Query}
+use Rattle.supply.specs.declared.Act.{Act}
+use Rattle.supply.specs.declared.Act.TheVariants.{Lines, Sample, Press, Turn, Obey, Ask, Nothing}
+use Rattle.acts.specs.Acts.{code_of}
+use Rattle.texts.specs.Texts.{code_text}
 use Rattle.reply.specs.Obeying.{said_of}
 use Rattle.reply.proofs.obey.Goals as goal
 
-pub returns-in-Lines-clause-says : goal.returns-in-Lines-clause-says
-unfolding said_of
-returns-in-Lines-clause-says c = rw (c.in-Lines.is, ← c.in-Lines.is) c.other.ensures.says
+pub returns-in-Obey-clause-says : goal.returns-in-Obey-clause-says
+unfolding said_of code_of
+returns-in-Obey-clause-says c = rw (c.in-Obey.is, ← c.obey_order.ensures.0) c.say_code.ensures.says
 
-pub returns-in-Sample-clause-says : goal.returns-in-Sample-clause-says
+-- what is said to an act that is no query
+no_query : (m : ℕ) (s : Supply) (a : Act) → ((q : Query) → a ≡ Ask q → ⊥) → code_text (code_of m s a) ≡ said_of m s a
 unfolding said_of
-returns-in-Sample-clause-says c = rw (c.in-Sample.is, ← c.in-Sample.is) c.other-in-Sample.ensures.says
+no_query m s (Ask q) n = absurd (n q refl)
+no_query m s (Obey o) n = refl
+no_query m s (Lines b) n = refl
+no_query m s (Sample v a) n = refl
+no_query m s (Press k) n = refl
+no_query m s (Turn t raw) n = refl
+no_query m s Nothing n = refl
 
-pub returns-in-Press-clause-says : goal.returns-in-Press-clause-says
-unfolding said_of
-returns-in-Press-clause-says c = rw (c.in-Press.is, ← c.in-Press.is) c.other-in-Press.ensures.says
-
-pub returns-in-Turn-clause-says : goal.returns-in-Turn-clause-says
-unfolding said_of
-returns-in-Turn-clause-says c = rw (c.in-Turn.is, ← c.in-Turn.is) c.other-in-Turn.ensures.says
-
-pub returns-in-Nothing-clause-says : goal.returns-in-Nothing-clause-says
-unfolding said_of
-returns-in-Nothing-clause-says c = rw (c.in-Nothing.is, ← c.in-Nothing.is) c.other-in-Nothing.ensures.says
+pub returns-in_default-clause-says : goal.returns-in_default-clause-says
+returns-in_default-clause-says c =
+    rw (← no_query c.args.model c.args.s c.args.a c.in_default.not-Ask, ← c.perform.ensures.0) c.say_code-in_default.ensures.says

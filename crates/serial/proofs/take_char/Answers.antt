@@ -1,29 +1,16 @@
-use Rattle.std.proofs.Common.{refl, length-set}
-use Rattle.serial.specs.View.{line_of}
-use Rattle.serial.proofs.Chars.{typed_lf, typed_back, typed_none, typed_add, typed_full}
+-- a law for each byte
+use Rattle.std.proofs.Common.{arith}
+use Rattle.serial.proofs.Chars.{does_lf, does_back, does_add, does_full}
 use Rattle.serial.proofs.take_char.Goals as goal
 
-pub returns-then-b-eq10 : goal.returns-then-b-eq10
-returns-then-b-eq10 c =
-    let z = c.args in
-    record { same = refl; typed = λ wide a h. typed_lf (line_of z.kept.now z.count z.spoiled a) z.b wide h c.if-b-eq10.true }
+pub returns-in-10 : goal.returns-in-10
+returns-in-10 c = does_lf _ _ _ _ c.in-10.is
 
-pub returns-then-count-gt0 : goal.returns-then-count-gt0
-returns-then-count-gt0 c =
-    let z = c.args in
-    record { same = refl; typed = λ wide a h. typed_back (line_of z.kept.now z.count z.spoiled a) z.b wide h c.if-b-eq10.false c.if-b-eq8.true }
+pub returns-in-8 : goal.returns-in-8
+returns-in-8 c = rw c.saturating_sub.ensures (does_back _ _ _ _ c.in-8.is)
 
-pub returns-then-b-eq8 : goal.returns-then-b-eq8
-returns-then-b-eq8 c =
-    let z = c.args in
-    record { same = refl; typed = λ wide a h. typed_none (line_of z.kept.now z.count z.spoiled a) z.b wide h c.if-b-eq10.false c.if-b-eq8.true c.if-count-gt0.false }
+pub returns-in_default : goal.returns-in_default
+returns-in_default c = does_add _ _ _ _ (omega arith) (omega arith) (omega arith)
 
-pub returns-then-count-lt64 : goal.returns-then-count-lt64
-returns-then-count-lt64 c =
-    let z = c.args in
-    record { same = length-set z.kept.now z.count z.b; typed = λ wide a h. typed_add (line_of z.kept.now z.count z.spoiled a) z.b wide h c.if-b-eq10.false c.if-b-eq8.false c.if-count-lt64.true }
-
-pub returns : goal.returns
-returns c =
-    let z = c.args in
-    record { same = refl; typed = λ wide a h. typed_full (line_of z.kept.now z.count z.spoiled a) z.b wide h c.if-b-eq10.false c.if-b-eq8.false c.if-count-lt64.false }
+pub returns-in_default-2 : goal.returns-in_default-2
+returns-in_default-2 c = does_full _ _ _ _ (omega arith) (omega arith) (omega arith)

@@ -6,7 +6,7 @@ pub returns-then-has_supply : goal.returns-then-has_supply
 returns-then-has_supply c =
     let z = c.args in
     rw c.one_ended.ensures
-    (refl, λ l. ends_select z.u l z.s z.buf.now z.at z.a _ _ _ (sym c.has_supply.ensures ∙ c.if-has_supply.true) c.put_code_reply-next.ensures)
+    (refl, λ l. ends_select z.u l z.s z.buf.now z.at z.a _ _ _ (sym c.has_supply.ensures ∙ c.if-has_supply.true) c.put_told_reply-next.ensures)
 
 pub returns-else-has_supply : goal.returns-else-has_supply
 returns-else-has_supply c =

@@ -7,7 +7,7 @@ returns-in-Figure c = rw c.in-Figure.is c.put_figure.ensures
 
 pub returns-in-Says : goal.returns-in-Says
 unfolding answer_text
-returns-in-Says c = rw c.in-Says.is c.put_word.ensures
+returns-in-Says c = rw (c.in-Says.is, ← c.spelling.ensures) c.put_text.ensures
 
 pub returns-in-Hex : goal.returns-in-Hex
 unfolding answer_text

@@ -1,10 +1,7 @@
--- the number so far is the one of the first i characters
-use Rattle.std.proofs.Common.{◌≡◌, ◌≤◌, ◌-◌}
+-- the number so far is the one of the characters before the index
+use Rattle.std.proofs.Common.{◌≡◌}
 use Rattle.words.specs.Words.{packed, upper_all}
 use Rattle.words.proofs.pack_word.Given as goal
 
-abbrev pub invariant-loop-i : goal.invariant-loop-i
-invariant-loop-i l = record { inside : l.i ≤ l.n; so_far : l.word ≡ packed (upper_all l.s) l.i }
-
-abbrev pub decreases-loop-i : goal.decreases-loop-i
-decreases-loop-i l = l.n - l.i
+abbrev pub invariant-loop-b : goal.invariant-loop-b
+invariant-loop-b l = l.word ≡ packed (upper_all l.s) l.b-index

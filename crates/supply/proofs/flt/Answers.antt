@@ -1,8 +1,0 @@
-use lib.Dec.{lit<}
-use Rattle.base.proofs.Bits.{flag}
-use Rattle.supply.specs.Flt.{flt_of}
-use Rattle.supply.proofs.flt.Goals as goal
-
-pub returns : goal.returns
-unfolding flt_of
-returns c = simp (flag 8 (lit< tt), flag 16 (lit< tt), flag 64 (lit< tt))
