@@ -23,7 +23,6 @@ pub trait Works {
     ghost room: { ℕ };
 
     // One cycle over the bytes read. What is to be written stands at the start of the buffer.
-    // The rack is lent, as a rack by value would be copied once more.
     fn cycle(&self, r: &Rack, s: &[u8], out: &mut [u8]) -> CycleOutcome
         requires { Able r.now × (length out.old ≡ room) }
         ensures { Turned stop r.now s.now result out.new };
