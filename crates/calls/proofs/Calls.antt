@@ -49,7 +49,7 @@ module _ (r : Rack) (bytes b : List ℕ) where
 
     module _ (h : 512 ≤ length b) (f : RefusedFirst r bytes b w b') (g : Able r → 0 + least_reply ≤ length b → WorkDoes r bytes b 0 13 w b') where
       -- an answer that is the engine's, where it refuses and where it does not
-      long_buffer : (a : Answer) → (w.rack ≡ r → w.used ≡ 0 → w.next ≡ 0 → a ≡ refusal r (refusal_code w.refusal)) → (refusal_code w.refusal ≡ 0 → a ≡ answer) → CallDoes r bytes b a b'
+      pub long_buffer : (a : Answer) → (w.rack ≡ r → w.used ≡ 0 → w.next ≡ 0 → a ≡ refusal r (refusal_code w.refusal)) → (refusal_code w.refusal ≡ 0 → a ≡ answer) → CallDoes r bytes b a b'
       unfolding call_of parse
       long_buffer a refuses accepts = rw (le-ltb (length b) 512 h) (by_parsed (read_field (fitted r.setup) bytes) refl)
         where

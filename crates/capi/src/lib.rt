@@ -24,17 +24,10 @@ pub struct Done {
 }
 
 // The fresh rack of a fitting list; or code 8 and a rack of empty slots.
-#[tactic(auto, using(fitting::proofs::Fits::refused_fit))]
 pub fn pu_fit(list: &[u8]) -> Fitted
     ensures { FitDoes list.now result }
 {
-    match fitting::fit(list) {
-        Ok(rack) => Fitted { code: 0, rack },
-        Err(refusal) => Fitted {
-            code: u8::from(refusal),
-            rack: fitting::empty_rack(),
-        },
-    }
+    fitting::fitted_numbers(list)
 }
 
 // One call: works the first field of the lent bytes on the lent rack. The contract is that of `call`, so a list of

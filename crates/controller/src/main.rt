@@ -7,6 +7,7 @@
 ghost use Rattle.engine.specs.Engine.{full_at};
 
 use cycles::CycleOutcome;
+use field::Refusal;
 use slots::Rack;
 use stream::Works;
 
@@ -17,6 +18,10 @@ impl Works for Cycles {
     ghost stop = { full_at 7680 };
 
     ghost room = { 8192 };
+
+    fn fit(&self, list: &[u8]) -> Result<Rack, Refusal> {
+        fitting::fit(list)
+    }
 
     fn cycle(&self, r: &Rack, s: &[u8], out: &mut [u8]) -> CycleOutcome {
         cycles::cycle(*r, s, out)

@@ -1,6 +1,8 @@
 -- The refusals as the code has them, with the number that the papers give each.
 use Rattle.std.specs.Prelude.{ℕ, Option, Some, None, Result, Ok, Err}
 use Rattle.field.specs.declared.Refusal.{Refusal}
+use Rattle.field.specs.declared.Header.{Header}
+use Rattle.field.specs.declared.BadHeader.{BadHeader}
 use Rattle.field.specs.declared.Refusal.TheVariants.{ShortBuffer, ShortHeader, UnknownTag, WrongLength, ShortPayload, NoSupply, ValueNotListed, BadList}
 
 -- 1 the reply buffer is too short; 2 fewer bytes than a header has; 3 no such tag; 4 a length that the tag does not
@@ -15,10 +17,15 @@ refusal_number NoSupply = 6
 refusal_number ValueNotListed = 7
 refusal_number BadList = 8
 
--- an outcome as the papers number it: 0 where nothing is refused, otherwise the number of the refusal
-abbrev pub refusal_told : {A : Type 0} → Result A Refusal → ℕ
-refusal_told (Ok a) = 0
-refusal_told (Err e) = refusal_number e
+-- a header as the papers number it: 0 where it is not refused, otherwise the number of the refusal
+abbrev pub header_told : Result Header BadHeader → ℕ
+header_told (Ok h) = 0
+header_told (Err bad) = refusal_number bad.refusal
+
+-- the header that is told, refused or not
+abbrev pub header_in : Result Header BadHeader → Header
+header_in (Ok h) = h
+header_in (Err bad) = bad.header
 
 -- and so a refusal, or none
 abbrev pub refusal_code : Option Refusal → ℕ

@@ -2,9 +2,9 @@
 // A field's tag, length and payload, or its refusal. Nothing here knows the rack.
 #![tactic(auto)]
 
-ghost use Rattle.std.specs.Prelude.{◌≡◌, ◌+◌, ◌<◌, ◌≤◌, length, get_or, take, drop, IfOk};
+ghost use Rattle.std.specs.Prelude.{◌≡◌, ◌+◌, ◌<◌, ◌≤◌, length, get_or, take, drop};
 ghost use Rattle.field.specs.Fields.{pair_at, tag_of, length_of, length_fits, header_code};
-ghost use Rattle.field.specs.Refusals.{refusal_number, refusal_told, refusal_code};
+ghost use Rattle.field.specs.Refusals.{refusal_number, refusal_code, header_told, header_in};
 
 // Why a field or a fitting list is refused: refusals 1 to 8, in order.
 #[derive(Clone, Copy, Debug, PartialEq, Eq)]
@@ -47,11 +47,27 @@ pub fn refusal_code(refusal: Option<Refusal>) -> u8
     }
 }
 
-// The header of a field that is not refused: its tag and the length of its payload.
+// The header of a field: its tag and the length of its payload. A byte that is not there reads as 0.
 #[derive(Clone, Copy)]
 pub struct Header {
     pub tag: u8,
     pub length: usize,
+}
+
+// A header that is refused: why, and the header all the same.
+#[derive(Clone, Copy)]
+pub struct BadHeader {
+    pub refusal: Refusal,
+    pub header: Header,
+}
+
+// What is told of a header that is refused, where only the refusal counts.
+impl From<BadHeader> for Refusal {
+    ghost from_gives = { λ bad refusal. refusal ≡ bad.refusal };
+
+    fn from(bad: BadHeader) -> Refusal {
+        bad.refusal
+    }
 }
 
 // The byte at index i, or 0 past the end.
@@ -82,28 +98,29 @@ fn length_fits(tag: u8, n: usize) -> bool
     }
 }
 
-// The header of the first field of the lent bytes, or refusal 2 to 5: the first of them that the bytes draw.
+// The header of the first field of the lent bytes, with refusal 2 to 5 beside it where the bytes draw one: the first of
+// them that they draw.
 #[tactic(auto, unfolding(crate::specs::Fields::header_code))]
-pub fn read_header(b: &[u8]) -> Result<Header, Refusal>
-    ensures code { refusal_told result ≡ header_code b.now }
-    ensures header { IfOk result (λ h. (h.tag ≡ tag_of b.now) × (h.length ≡ length_of b.now)) }
+pub fn read_header(b: &[u8]) -> Result<Header, BadHeader>
+    ensures code { header_told result ≡ header_code b.now }
+    ensures header { ((header_in result).tag ≡ tag_of b.now) × ((header_in result).length ≡ length_of b.now) }
 {
     let n = b.len();
-    if n < 3 {
-        return Err(Refusal::ShortHeader);
-    }
-    let tag = b[0];
-    if !(1..=5).contains(&tag) {
-        return Err(Refusal::UnknownTag);
-    }
+    let tag = byte_at(b, 0);
     let length = usize::from(pair_at(b, 1));
-    if !length_fits(tag, length) {
-        return Err(Refusal::WrongLength);
-    }
-    if n < 3 + length {
-        return Err(Refusal::ShortPayload);
-    }
-    Ok(Header { tag, length })
+    let header = Header { tag, length };
+    let refusal = if n < 3 {
+        Refusal::ShortHeader
+    } else if !(1..=5).contains(&tag) {
+        Refusal::UnknownTag
+    } else if !length_fits(tag, length) {
+        Refusal::WrongLength
+    } else if n < 3 + length {
+        Refusal::ShortPayload
+    } else {
+        return Ok(header);
+    };
+    Err(BadHeader { refusal, header })
 }
 
 // The payload of a complete field.

@@ -19,7 +19,7 @@ use Rattle.std.proofs.lemmas.List.Recursion.{is_position_or_len}
 use Rattle.base.specs.Choice.{pick}
 use Rattle.base.proofs.Choice.{pick_keeps}
 use Rattle.figures.specs.Digits.{is_digit, digit_of, all_digits, run_value}
-use Rattle.figures.specs.Number.{first_at, whole, fraction, well_formed, whole_units, side_by_side, scaled_value, number_is, no_number, number_in, read_number}
+use Rattle.figures.specs.Number.{first_at, whole, fraction, well_formed, whole_units, side_by_side, scaled_value, number_is, no_number, read_number}
 use Rattle.figures.specs.Rounded.{RoundedTo, Spelled}
 use Rattle.figures.proofs.Rounding.{units_apart, within_half, whole_rounded, rounded_one}
 
@@ -152,7 +152,7 @@ module _ (k : ℕ) (t : List ℕ) (h : well_formed t ≡ true) where
       rounded_one (side_by_side (whole t) (fraction t) * 10 ^ k) (10 ^ length (fraction t)) (pow_pos (length (fraction t))) v (read_number k t).value r number_rounded
 
 -- a text that is too long
-pub read_long : (k : ℕ) (t : List ℕ) → 12 < length t → None ≡ number_in (read_number k t)
+pub read_long : (k : ℕ) (t : List ℕ) → 12 < length t → no_number ≡ read_number k t
 unfolding read_number well_formed
 read_long k t h = rw (lt-leb _ 12 h) refl
 
@@ -173,13 +173,9 @@ module _ {t w f : List ℕ} (p : Parted t w f) where
 
   -- whether they spell a number, tested in the code's order
   pub read_parts : (k : ℕ) (a b c : Bool) → all_digits w ≡ a → all_digits f ≡ b → ltb 0 (length w + length f) ≡ c
-      → pick (a && (b && c)) (Some (scaled_value k w f)) None ≡ number_in (read_number k t)
+      → pick (a && (b && c)) (number_is (scaled_value k w f)) no_number ≡ read_number k t
   unfolding read_number well_formed
-  read_parts k a b c ea eb ec = rw (le-leb _ 12 p.short, ← p.whole_is, ea, ← p.fraction_is, eb, ec) (by_test (a && (b && c)))
-    where
-      by_test : (g : Bool) → pick g (Some (scaled_value k w f)) None ≡ number_in (pick g (number_is (scaled_value k w f)) no_number)
-      by_test true = refl
-      by_test false = refl
+  read_parts k a b c ea eb ec = rw (le-leb _ 12 p.short, ← p.whole_is, ea, ← p.fraction_is, eb, ec) refl
 
   pub good_number : (k : ℕ) → all_digits w ≡ true → all_digits f ≡ true → (length w + length f ≡ 0 → ⊥) → number_is (scaled_value k w f) ≡ read_number k t
   unfolding read_number well_formed

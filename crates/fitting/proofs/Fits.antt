@@ -10,11 +10,7 @@ use Rattle.fitting.specs.Fitting.{all_allowed, good_list, Made}
 use Rattle.slots.specs.declared.Rack.{Rack}
 use Rattle.slots.specs.View.{Able}
 use Rattle.fitting.specs.declared.Fitted.{Fitted}
-use Rattle.std.specs.Prelude.{Err}
-use Rattle.field.specs.declared.Refusal.{Refusal}
-use Rattle.field.specs.Refusals.{refusal_number}
-use Rattle.field.proofs.Refusals.{some_number}
-use Rattle.fitting.specs.Fit.{fitted_told, FitDoes}
+use Rattle.fitting.specs.Fit.{FitDoes}
 
 module _ (l : List ℕ) (g : Bool) (e : g ≡ all_allowed l) (q : Rack) where
   pub good_fit : (m : List ℕ) → (eqb (length l) 31 && g) ≡ true → (length l ≡ 31 → m ≡ l) → Made (record { models = m }) q → FitDoes l (record { code = 0; rack = q })
@@ -35,7 +31,3 @@ fitted_small l f d = by_test (good_list l) refl
     by_test : (t : Bool) → good_list l ≡ t → Able f.rack
     by_test true e = (d.makes e).1.small
     by_test false e = (d.refuses e).1.small
-
--- a refusal with another rack of empty slots beside it
-pub refused_fit : (l : List ℕ) (e : Refusal) (q : Rack) → FitDoes l (fitted_told (Err e)) → Made (record { models = replicate 31 255 }) q → FitDoes l (record { code = refusal_number e; rack = q })
-refused_fit l e q d m = record { refuses = λ f. ((d.refuses f).0, m); makes = λ h. absurd (some_number e (d.makes h).0) }

@@ -9,7 +9,7 @@ use lib.ListN.{length, get_or}
 use borrow.Author.Tests.{le-leb, lt-leb, eq-eqb, ne_eqb, ltb-true, ltb-false, leb-true}
 use Rattle.std.specs.Prelude.{Option, Some, None, fold}
 use Rattle.base.specs.Choice.{pick}
-use Rattle.figures.specs.Number.{number_is, no_number, number_in}
+use Rattle.figures.specs.Number.{number_is, no_number}
 use Rattle.hexadecimal.specs.Hex.{is_hex, hex_of, read_hex, hex_digit, hex_pair, total, checksum}
 
 -- a printed digit reads back as its value
@@ -76,7 +76,7 @@ hex_lt t = by_test (eqb (length t) 2 && (is_hex (get_or t 0 0) && is_hex (get_or
 
 -- what the code reads
 module _ (t : List ℕ) where
-  pub hex_length : (length t ≡ 2 → ⊥) → None ≡ number_in (read_hex t)
+  pub hex_length : (length t ≡ 2 → ⊥) → no_number ≡ read_hex t
   unfolding read_hex
   hex_length h = rw (ne_eqb _ 2 h) refl
 
@@ -102,15 +102,15 @@ module _ (t : List ℕ) where
   value_lt i e = let v = value_at i e in omega (arith, hex_of_lt (get_or t i 0) v.0, v.1)
 
   module _ (two : length t ≡ 2) where
-    pub hex_high : None ≡ at 0 → None ≡ number_in (read_hex t)
+    pub hex_high : None ≡ at 0 → no_number ≡ read_hex t
     unfolding read_hex
     hex_high e = rw (eq-eqb _ 2 two, none_at 0 e) refl
 
-    pub hex_low : {m : ℕ} → Some m ≡ at 0 → None ≡ at 1 → None ≡ number_in (read_hex t)
+    pub hex_low : {m : ℕ} → Some m ≡ at 0 → None ≡ at 1 → no_number ≡ read_hex t
     unfolding read_hex
     hex_low d e = let v = value_at 0 d in rw (eq-eqb _ 2 two, v.0, none_at 1 e) refl
 
-    pub hex_both : {m n : ℕ} → Some m ≡ at 0 → Some n ≡ at 1 → Some (m * 16 + n) ≡ number_in (read_hex t)
+    pub hex_both : {m n : ℕ} → Some m ≡ at 0 → Some n ≡ at 1 → number_is (m * 16 + n) ≡ read_hex t
     unfolding read_hex
     hex_both d e = let v = value_at 0 d in let w = value_at 1 e in rw (eq-eqb _ 2 two, v.0, w.0, v.1, w.1) refl
 

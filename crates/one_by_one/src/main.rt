@@ -121,6 +121,10 @@ impl Works for Fields {
 
     ghost room = { 512 };
 
+    fn fit(&self, list: &[u8]) -> Result<Rack, Refusal> {
+        rack::fit(list)
+    }
+
     fn cycle(&self, r: &Rack, s: &[u8], out: &mut [u8]) -> CycleOutcome {
         take_field(*r, s, out)
     }

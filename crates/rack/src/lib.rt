@@ -5,5 +5,5 @@
 
 pub use calls::{Called, call};
 pub use field::Refusal;
-pub use fitting::{Fitted, empty_rack, fit};
+pub use fitting::{Fitted, empty_rack, fit, fitted_numbers};
 pub use resistance::{Cell, Metered, Resistance, cell_at};

@@ -5,22 +5,28 @@
 
 ghost use Rattle.std.specs.Prelude.{ℕ, ◌≡◌, Bool, true, false, ◌<◌, length};
 ghost use Rattle.slots.specs.View.{Able};
+ghost use Rattle.fitting.specs.Fit.{fitted_told, FitDoes};
 ghost use Rattle.stream.specs.Stream.{unworked, Refilled, goes_on, told};
 ghost use Rattle.stream.specs.Turn.{Turned};
 
 use cycles::CycleOutcome;
+use field::Refusal;
 use slots::Rack;
 
 // The length of a fitting list.
 const LIST: usize = 31;
 
-// What works the fields of one cycle. A program differs from the other in this alone.
+// What takes the fitting list, and works the fields of one cycle. A program differs from the other in this alone.
 pub trait Works {
     // Whether a cycle stops, by the length of what its fields have said.
     ghost stop: { ℕ → Bool };
 
     // The length of the buffer for what is to be written.
     ghost room: { ℕ };
+
+    // The rack of a fitting list.
+    fn fit(&self, list: &[u8]) -> Result<Rack, Refusal>
+        ensures { FitDoes list.now (fitted_told result) };
 
     // One cycle over the bytes read. What is to be written stands at the start of the buffer.
     fn cycle(&self, r: &Rack, s: &[u8], out: &mut [u8]) -> CycleOutcome
@@ -125,7 +131,7 @@ pub fn run<W: Works>(rt: &HostRuntime, works: &W, out: &mut [u8])
     if got.failed {
         return;
     }
-    let code = match fitting::fit(base::part_to(&list, got.count)) {
+    let code = match works.fit(base::part_to(&list, got.count)) {
         Ok(rack) => {
             let mut room = console::buffer();
             take_input(rt, works, rack, &mut room, out)

@@ -3,7 +3,7 @@ use Rattle.wire.specs.Wire.{fitted}
 use Rattle.supply.proofs.ErrorCodes.{unwrapped}
 use Rattle.field.specs.Fields.{tag_of, payload_of, values_fit, act_of}
 use Rattle.field.proofs.Laws.{header_good}
-use Rattle.field.proofs.Refusals.{some_number}
+use Rattle.field.proofs.Refusals.{some_number, passed_on}
 use Rattle.serial.proofs.Models.{model_there, none_there}
 use Rattle.addressed.proofs.Addressed.{not_serial, bad_header, no_supply, bad_value, event_done}
 use Rattle.addressed.proofs.take_event.Goals as goal
@@ -11,9 +11,10 @@ use Rattle.addressed.proofs.take_event.Goals as goal
 pub returns-in_err-header : goal.returns-in_err-header
 returns-in_err-header c =
     let z = c.args in
-    let is : c.from_residual.result ≡ Err c.in_err-header.field-0.0 = search rules in
+    let bad = c.in_err-header.field-0.0 in
+    let is : c.from_residual.result ≡ Err bad.refusal = passed_on _ bad c.from_residual.ensures.1 in
     λ left q l buf at.
-    rw ((not_serial z.b.now left q).0, is) (bad_header z.u l z.s z.b.now buf at _ _ c.in_err-header.ensures.code (some_number c.in_err-header.field-0.0))
+    rw ((not_serial z.b.now left q).0, is) (bad_header z.u l z.s z.b.now buf at _ _ c.in_err-header.ensures.code (some_number bad.refusal))
 
 pub payload-p-requires : goal.payload-p-requires
 payload-p-requires c = rw c.in_ok-header.ensures.header.1 (header_good _ (sym c.in_ok-header.ensures.code)).0

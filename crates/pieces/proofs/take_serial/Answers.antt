@@ -2,7 +2,7 @@ use Rattle.std.proofs.Common.{rules, ◌≡◌, refl, sym, ◌∙◌, arith, Err
 use borrow.Author.Tests.{eqb-true}
 use Rattle.field.specs.Fields.{tag_of, payload_of}
 use Rattle.field.proofs.Laws.{header_good}
-use Rattle.field.proofs.Refusals.{some_number}
+use Rattle.field.proofs.Refusals.{some_number, passed_on}
 use Rattle.serial.specs.View.{line_of}
 use Rattle.addressed.proofs.Addressed.{bad_header}
 use Rattle.pieces.proofs.Lines.{begun, first_line}
@@ -19,8 +19,9 @@ returns-in_err-header c =
     let z = c.args in
     let l = line_of z.kept.now z.count z.spoiled z.selected in
     let new : z.left ≡ 0 = omega (arith, c.if-left-gt0.false) in
-    let is : c.from_residual.result ≡ Err c.in_err-header.field-0.0 = search rules in
-    rw is (refl, λ q h. rw new (bad_header z.u l z.s z.b.now z.buf.now z.at _ _ c.in_err-header.ensures.code (some_number c.in_err-header.field-0.0)))
+    let bad = c.in_err-header.field-0.0 in
+    let is : c.from_residual.result ≡ Err bad.refusal = passed_on _ bad c.from_residual.ensures.1 in
+    rw is (refl, λ q h. rw new (bad_header z.u l z.s z.b.now z.buf.now z.at _ _ c.in_err-header.ensures.code (some_number bad.refusal)))
 
 pub payload-part-requires : goal.payload-part-requires
 payload-part-requires c = rw c.in_ok-header.ensures.header.1 (header_good _ (sym c.in_ok-header.ensures.code)).0
