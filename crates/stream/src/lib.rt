@@ -24,9 +24,12 @@ pub trait Works {
     // The length of the buffer for what is to be written.
     ghost room: { ℕ };
 
-    // The rack of a fitting list.
+    // The rack of a fitting list: the one that `fit` of `fitting` makes, unless a program takes the list by another `fit`.
     fn fit(&self, list: &[u8]) -> Result<Rack, Refusal>
-        ensures { FitDoes list.now (fitted_told result) };
+        ensures { FitDoes list.now (fitted_told result) }
+    {
+        fitting::fit(list)
+    }
 
     // One cycle over the bytes read. What is to be written stands at the start of the buffer.
     fn cycle(&self, r: &Rack, s: &[u8], out: &mut [u8]) -> CycleOutcome
@@ -142,3 +145,6 @@ pub fn run<W: Works>(rt: &HostRuntime, works: &W, out: &mut [u8])
         console::say_refusal(rt, code);
     }
 }
+
+#[cfg(test)]
+mod tests;
